@@ -9,7 +9,7 @@ use Rattle.xa_types.specs.Setup.{service_named}
 use Rattle.xa_types.specs.Rows.{Change, rows, row_with, row_for}
 use Rattle.xa_types.specs.Rows.Change.{Put, Remove}
 use Rattle.xa_events.specs.Board.{changes, rows_of_version, listed_in}
-use Rattle.xa_board.specs.Board.{Standing, ReadsAsNoted, IsAsConfigured, past_of, version_of, put_of, rows_seen}
+use Rattle.xa_board.specs.Board.{BoardState, ReadsAsNoted, IsAsConfigured, past_of, version_of, put_of, rows_seen}
 use Rattle.xa_board.proofs.Noted.{rows_of_version-last}
 
 -- the row that a change puts, by the setup
@@ -33,12 +33,12 @@ rows-configured setup (Put service queue routine ∷ made) =
 rows-configured setup (Remove service queue ∷ made) = All-filter _ (IsAsConfigured setup) (rows setup made) (rows-configured setup made)
 
 -- the rows are those of the last version
-pub rows-listed : (setup : Setup) (board : Standing) → ReadsAsNoted board → All (IsAsConfigured setup) board.rows → board.rows ≡ rows_of_version setup (past_of board) (version_of board)
+pub rows-listed : (setup : Setup) (board : BoardState) → ReadsAsNoted board → All (IsAsConfigured setup) board.rows → board.rows ≡ rows_of_version setup (past_of board) (version_of board)
 rows-listed setup board reads all =
     let last = rows_of_version-last setup (past_of board) in
     let made = changes (past_of board) in
     from_puts setup board.rows all ∙ ap (map (row_put setup)) (reads.standing setup ∙ ap (map put_of) last) ∙ sym (from_puts setup (rows setup made) (rows-configured setup made)) ∙ sym last
 
-pub rows_seen-listed : (setup : Setup) (board : Standing) → ReadsAsNoted board → All (IsAsConfigured setup) board.rows → (service : List ℕ) (conversational : Bool) → rows_seen service conversational board.rows ≡ listed_in setup (past_of board) (version_of board) service conversational
+pub rows_seen-listed : (setup : Setup) (board : BoardState) → ReadsAsNoted board → All (IsAsConfigured setup) board.rows → (service : List ℕ) (conversational : Bool) → rows_seen service conversational board.rows ≡ listed_in setup (past_of board) (version_of board) service conversational
 unfolding rows_of_version listed_in
 rows_seen-listed setup board reads all service conversational = ap (rows_seen service conversational) (rows-listed setup board reads all)

@@ -15,7 +15,7 @@ use Rattle.xa_events.specs.declared.event.Advertised.{Advertised}
 use Rattle.xa_events.specs.declared.event.Withdrawn.{Withdrawn}
 use Rattle.xa_events.specs.Board.{change_in, changes, published, rows_of_version}
 use Rattle.xa_stamp.specs.declared.home.Stamped.{Stamped}
-use Rattle.xa_board.specs.Board.{Standing, past_of, version_of, put_of, ReadsAsNoted}
+use Rattle.xa_board.specs.Board.{BoardState, past_of, version_of, put_of, ReadsAsNoted}
 use Rattle.xa_board.specs.Changes.{changed, without}
 use Rattle.xa_board.proofs.Puts.{without-same, push-same}
 
@@ -40,7 +40,7 @@ rows_of_version-last setup past =
     ap (λ k. rows setup (drop k (changes past))) none
 
 -- a change is noted, after which the rows are so changed as its rows are
-noted : (board : Standing) (stamp : Stamp) (e : Event) (change : Change) (left : List Row) → change_in e ≡ Some change → ReadsAsNoted board → ((setup : Setup) (made : List Change) → map put_of board.rows ≡ map put_of (rows setup made) → map put_of left ≡ map put_of (rows setup (change ∷ made))) → length left ≤ 256 → ReadsAsNoted (changed board stamp e left)
+noted : (board : BoardState) (stamp : Stamp) (e : Event) (change : Change) (left : List Row) → change_in e ≡ Some change → ReadsAsNoted board → ((setup : Setup) (made : List Change) → map put_of board.rows ≡ map put_of (rows setup made) → map put_of left ≡ map put_of (rows setup (change ∷ made))) → length left ≤ 256 → ReadsAsNoted (changed board stamp e left)
 noted board stamp e change left is reads turns few =
     let entry : Stamped = record { stamp = stamp; event = e } in
     let past = past-push board.entries entry in
@@ -60,7 +60,7 @@ put_of-row_with None row = refl
 put_of-row_with (Some configured) row = refl
 
 -- a row is advertised
-pub advertised-noted : (board : Standing) (stamp : Stamp) (a : Advertised) (row : Row) → a.service ≡ row.service → a.queue ≡ row.queue → a.routine ≡ row.routine → ReadsAsNoted board → length (without row.service row.queue.0 board.rows ++ row ∷ []) ≤ 256 → ReadsAsNoted (changed board stamp (Advertise a) (without row.service row.queue.0 board.rows ++ row ∷ []))
+pub advertised-noted : (board : BoardState) (stamp : Stamp) (a : Advertised) (row : Row) → a.service ≡ row.service → a.queue ≡ row.queue → a.routine ≡ row.routine → ReadsAsNoted board → length (without row.service row.queue.0 board.rows ++ row ∷ []) ≤ 256 → ReadsAsNoted (changed board stamp (Advertise a) (without row.service row.queue.0 board.rows ++ row ∷ []))
 advertised-noted board stamp a row service queue routine reads few =
     let change : Change = Put row.service row.queue.0 row.routine in
     let is : change_in (Advertise a) ≡ Some change = ap (λ s. Some (Put s a.queue.0 a.routine)) service ∙ ap (λ q. Some (Put row.service q.0 a.routine)) queue ∙ ap (λ r. Some (Put row.service row.queue.0 r)) routine in
@@ -69,7 +69,7 @@ advertised-noted board stamp a row service queue routine reads few =
     few
 
 -- a service is withdrawn
-pub withdrawn-noted : (board : Standing) (stamp : Stamp) (w : Withdrawn) → ReadsAsNoted board → length (without w.service w.queue.0 board.rows) ≤ 256 → ReadsAsNoted (changed board stamp (Withdraw w) (without w.service w.queue.0 board.rows))
+pub withdrawn-noted : (board : BoardState) (stamp : Stamp) (w : Withdrawn) → ReadsAsNoted board → length (without w.service w.queue.0 board.rows) ≤ 256 → ReadsAsNoted (changed board stamp (Withdraw w) (without w.service w.queue.0 board.rows))
 withdrawn-noted board stamp w reads few =
     noted board stamp (Withdraw w) (Remove w.service w.queue.0) (without w.service w.queue.0 board.rows) refl reads (λ setup made same. without-same w.service w.queue.0 board.rows (rows setup made) same) few
 

@@ -13,7 +13,7 @@ use Rattle.xa_types.specs.Rows.{is_row_of}
 use Rattle.xa_events.specs.declared.event.Event.TheVariants.{Withdraw}
 use Rattle.xa_events.specs.declared.event.Withdrawn.{Withdrawn}
 use Rattle.xa_stamp.specs.declared.home.Stamped.{Stamped}
-use Rattle.xa_board.specs.Board.{Standing, ReadsAsNoted}
+use Rattle.xa_board.specs.Board.{BoardState, ReadsAsNoted}
 use Rattle.xa_board.specs.Changes.{changed, without, is_on, rows_on, withdrawals}
 use Rattle.xa_board.proofs.Noted.{withdrawn-noted}
 
@@ -26,7 +26,7 @@ abbrev in_turn : List Row → List Row → List Row
 in_turn [] rows = rows
 in_turn (row ∷ rest) rows = in_turn rest (without row.service row.queue.0 rows)
 
-in_turn-noted : (gone : List Row) (stamp version : ℕ) (board : Standing) → ReadsAsNoted board → ReadsAsNoted (record { first = board.first; entries = board.entries ++ withdrawals stamp version gone; rows = in_turn gone board.rows })
+in_turn-noted : (gone : List Row) (stamp version : ℕ) (board : BoardState) → ReadsAsNoted board → ReadsAsNoted (record { first = board.first; entries = board.entries ++ withdrawals stamp version gone; rows = in_turn gone board.rows })
 in_turn-noted [] stamp version board reads =
     let P : List Stamped → Type 0 = λ entries. ReadsAsNoted (record { first = board.first; entries = entries; rows = board.rows }) in
     subst P (sym (append-nil board.entries)) reads
@@ -117,7 +117,7 @@ in_turn-on queue rows =
     (All-weaker Member Same (λ x member. none_of-on queue gone x (is_on queue x) refl (filter_passes (is_on queue) rows) member) rows (All-passed (is_on queue) (λ x. none_of gone x ≡ false) rows (none_of-own gone)))
 
 -- the board reads as its events do once all rows of a queue are withdrawn
-pub cleared-noted : (queue stamp version : ℕ) (board : Standing) → ReadsAsNoted board → ReadsAsNoted (record { first = board.first; entries = board.entries ++ withdrawals stamp version (rows_on queue board.rows); rows = filter (λ row. not (is_on queue row)) board.rows })
+pub cleared-noted : (queue stamp version : ℕ) (board : BoardState) → ReadsAsNoted board → ReadsAsNoted (record { first = board.first; entries = board.entries ++ withdrawals stamp version (rows_on queue board.rows); rows = filter (λ row. not (is_on queue row)) board.rows })
 cleared-noted queue stamp version board reads =
     let P : List Row → Type 0 = λ left. ReadsAsNoted (record { first = board.first; entries = board.entries ++ withdrawals stamp version (rows_on queue board.rows); rows = left }) in
     subst P (in_turn-on queue board.rows) (in_turn-noted (rows_on queue board.rows) stamp version board reads)

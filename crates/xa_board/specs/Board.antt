@@ -13,21 +13,21 @@ use Rattle.xa_stamp.specs.declared.home.Stamped.{Stamped}
 use Rattle.xa_stamp.specs.Home.{last_stamp}
 
 -- what a board is: the stamp with which it begins, its changes as they were noted, and the rows that stand, in their order
-pub record Standing : Type 0 where
+pub record BoardState : Type 0 where
   pub first : Stamp
   pub entries : List Stamped
   pub rows : List Row
 
 -- the events that were noted, the newest first
-abbrev pub past_of : Standing → List Event
+abbrev pub past_of : BoardState → List Event
 past_of board = reverse (map (λ noted. noted.event) board.entries)
 
 -- how many changes were made
-abbrev pub version_of : Standing → ℕ
+abbrev pub version_of : BoardState → ℕ
 version_of board = published (past_of board)
 
 -- the stamp of the last change; the first one where none was made
-abbrev pub stamp_of : Standing → ℕ
+abbrev pub stamp_of : BoardState → ℕ
 stamp_of board = last_stamp board.first board.entries
 
 -- the change that puts a row: its service, queue and routine
@@ -36,7 +36,7 @@ put_of row = Put row.service row.queue.0 row.routine
 
 -- the board reads as its events do: each of them is a change, the rows that stand have the services, queues and routines of those that the
 -- changes leave, which are the same by every setup, and there are 256 at most
-pub record ReadsAsNoted (board : Standing) : Type 0 where
+pub record ReadsAsNoted (board : BoardState) : Type 0 where
   pub changes : version_of board ≡ length board.entries
   pub standing : (setup : Setup) → map put_of board.rows ≡ map put_of (rows_of_version setup (past_of board) (version_of board))
   pub few : length board.rows ≤ 256

@@ -13,18 +13,18 @@ use Rattle.xa_stamp.specs.declared.home.Stamped.{Stamped}
 use Rattle.xa_stamp.specs.Home.{larger_of, with_event}
 use Rattle.xa_board.specs.declared.board.BoardRefused.{BoardRefused}
 use Rattle.xa_board.specs.declared.board.BoardRefused.TheVariants.{Match, NoEnt, Full, Worn}
-use Rattle.xa_board.specs.Board.{Standing, version_of}
+use Rattle.xa_board.specs.Board.{BoardState, version_of}
 
 -- the larger of a stamp that was seen and of the last one
-abbrev pub larger : Stamp → Standing → ℕ
+abbrev pub larger : Stamp → BoardState → ℕ
 larger seen board = larger_of seen board.first board.entries
 
 -- the version and the stamp of the next change
-abbrev pub next_change : Stamp → Standing → ℕ × Stamp
+abbrev pub next_change : Stamp → BoardState → ℕ × Stamp
 next_change seen board = (version_of board + 1, record { 0 = larger seen board + 1 })
 
 -- the board once this event is noted, with these rows
-abbrev pub changed : Standing → Stamp → Event → List Row → Standing
+abbrev pub changed : BoardState → Stamp → Event → List Row → BoardState
 changed board stamp event rows =
     record { first = board.first; entries = with_event stamp event board.entries; rows = rows }
 
@@ -47,7 +47,7 @@ withdrawals stamp version (row ∷ rest) =
     ∷ withdrawals (stamp + 1) (version + 1) rest
 
 -- the board once all rows of the queue are withdrawn
-abbrev pub cleared : Stamp → ℕ → Standing → Standing
+abbrev pub cleared : Stamp → ℕ → BoardState → BoardState
 cleared seen queue board =
     record {
       first = board.first;
@@ -56,7 +56,7 @@ cleared seen queue board =
     }
 
 -- what bars so many changes more: they would pass the last stamp, 2^63
-abbrev pub worn_by : ℕ → Stamp → Standing → Option BoardRefused
+abbrev pub worn_by : ℕ → Stamp → BoardState → Option BoardRefused
 worn_by count seen board = if nat_lt (2 ^ 63) (larger seen board + count) then Some (Worn (record { 0 = larger seen board })) else None
 
 -- what bars a row, beside the row of its service and queue: that has another routine (TPEMATCH), or there is none and 256 rows stand (TPELIMIT)
@@ -70,9 +70,9 @@ bars_withdrawal (Some standing) = None
 bars_withdrawal None = Some NoEnt
 
 -- why the row isn't advertised, by the first that bars it
-abbrev pub advertise_refused : Stamp → Row → Standing → Option BoardRefused
+abbrev pub advertise_refused : Stamp → Row → BoardState → Option BoardRefused
 advertise_refused seen row board = option_or (bars_put row board.rows (row_of row.service row.queue.0 board.rows)) (worn_by 1 seen board)
 
 -- why the service isn't withdrawn from the queue, by the first that bars it
-abbrev pub withdraw_refused : Stamp → List ℕ → ℕ → Standing → Option BoardRefused
+abbrev pub withdraw_refused : Stamp → List ℕ → ℕ → BoardState → Option BoardRefused
 withdraw_refused seen service queue board = option_or (bars_withdrawal (row_of service queue board.rows)) (worn_by 1 seen board)

@@ -1,9 +1,9 @@
 -- How a board is kept.
 use Rattle.std.specs.Prelude.{◌≡◌}
 use Rattle.xa_board.specs.declared.board.Board.TheInside.{Inside}
-use Rattle.xa_board.specs.Board.{Standing, ReadsAsNoted}
+use Rattle.xa_board.specs.Board.{BoardState, ReadsAsNoted}
 
-abbrev pub standing_of : Inside → Standing
+abbrev pub standing_of : Inside → BoardState
 standing_of b = record { first = b.home.first; entries = b.home.entries; rows = b.rows }
 
 -- it reads as noted, and its first stamp is that of its home

@@ -64,9 +64,9 @@ pub struct Board {
 }
 
 impl Model for Board {
-    ghost use Rattle.xa_board.specs.Board.{Standing};
+    ghost use Rattle.xa_board.specs.Board.{BoardState};
 
-    ghost Value = { Standing };
+    ghost Value = { BoardState };
 
     ghost use Rattle.xa_board.specs.Kept.{standing_of, IsKept};
 

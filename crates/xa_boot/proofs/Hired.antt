@@ -10,7 +10,7 @@ use Rattle.xa_client_worker.specs.xa_types.declared.setup.ServerSetup.{ServerSet
 use Rattle.xa_client_worker.specs.xa_types.Configured.{is_among, queue_names}
 use Rattle.xa_client_worker.specs.xa_types.Setup.{numbered, queue_named, queue_in, queue_of}
 use Rattle.xa_client_worker.specs.xa_held.Notes.{IsOther}
-use Rattle.xa_client_worker.specs.xa_restart.Rule.{Standing as Restarts, IsRuleOf}
+use Rattle.xa_client_worker.specs.xa_restart.Rule.{RestartState, IsRuleOf}
 use Rattle.xa_client_worker.specs.xa_server.Changes.{new_slot}
 use Rattle.xa_client_worker.specs.xa_server.declared.slot.ServerSlot.{ServerSlot}
 use Rattle.xa_client_worker.specs.xa_server.Served.{StarterShows}
@@ -71,7 +71,7 @@ module _ (d : Domain) (domain : IsDomain d) (place : ℕ) (configured : ServerSe
         hand = tt;
       }
 
-  pub new_server : {L T : Type 0} (shows : T → StarterShows) (worker : ServerWorker L T) (lives : Restarts) → worker.desk ≡ desk → worker.served.slot ≡ new_slot (record { 0 = place + 1 }) lives → lives ≡ restarts_of configured
+  pub new_server : {L T : Type 0} (shows : T → StarterShows) (worker : ServerWorker L T) (lives : RestartState) → worker.desk ≡ desk → worker.served.slot ≡ new_slot (record { 0 = place + 1 }) lives → lives ≡ restarts_of configured
       → (shows worker.served.starter).name ≡ configured.name → HasStarted (shows worker.served.starter).name 0 0 (shows worker.served.starter) → worker.name ≡ configured.name → worker.queue.0 ≡ queue_named d.setup configured.queue
       → worker.served.lives.items ≡ [] → worker.cut ≡ None → worker.stopped ≡ None → IsNewServer d shows (place + 1) worker
   new_server shows worker lives at slot rule starter unasked name queue none uncut unstopped =

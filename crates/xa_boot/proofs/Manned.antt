@@ -5,7 +5,7 @@ use Rattle.std.specs.List.{All}
 use Rattle.std.proofs.lemmas.Option.{slice_get-map, slice_get_within}
 use Rattle.std.proofs.lemmas.List.{reverse-append, length-map}
 use Rattle.xa_client_worker.specs.xa_events.Words.{EachNumbered}
-use Rattle.xa_client_worker.specs.xa_restart.Rule.{Standing as Restarts}
+use Rattle.xa_client_worker.specs.xa_restart.Rule.{RestartState}
 use Rattle.xa_client_worker.specs.xa_server.Served.{StarterShows}
 use Rattle.xa_client_worker.specs.xa_types.declared.setup.ServerSetup.{ServerSetup}
 use Rattle.xa_server_worker.specs.declared.working.ServerWorker.{ServerWorker}
@@ -29,7 +29,7 @@ module _ {L T : Type 0} (d : Domain) (shows : T → StarterShows) (all : List T)
 
   -- what stands at each starter's place
   module _ (names : map (λ s. (shows s).name) all ≡ map (λ (server : ServerSetup). server.name) d.setup.servers) where
-    pub none_hired : (lives : List Restarts) (servers : List (ServerWorker L T)) → lives ≡ map restarts_of d.setup.servers → servers ≡ [] → AreHired d shows all all lives servers
+    pub none_hired : (lives : List RestartState) (servers : List (ServerWorker L T)) → lives ≡ map restarts_of d.setup.servers → servers ≡ [] → AreHired d shows all all lives servers
     none_hired lives servers are none =
         let count = ap length names in
         let starters = length-map all (λ s. (shows s).name) in
@@ -43,7 +43,7 @@ module _ {L T : Type 0} (d : Domain) (shows : T → StarterShows) (all : List T)
           each = subst (λ (l : List (ServerWorker L T)). EachNumbered (IsNewServer d shows) (length all + 1) (reverse l)) (sym none) tt;
         }
 
-    module _ (left : List T) (starter : T) (lives : List Restarts) (its : Restarts) (servers : List (ServerWorker L T)) (now : List T) (now_lives : List Restarts) (was : now ≡ left ++ starter ∷ []) (were : now_lives ≡ lives ++ its ∷ []) (given : AreHired d shows all now now_lives servers) where
+    module _ (left : List T) (starter : T) (lives : List RestartState) (its : RestartState) (servers : List (ServerWorker L T)) (now : List T) (now_lives : List RestartState) (was : now ≡ left ++ starter ∷ []) (were : now_lives ≡ lives ++ its ∷ []) (given : AreHired d shows all now now_lives servers) where
       hired : AreHired d shows all (left ++ starter ∷ []) (lives ++ its ∷ []) servers
       hired = subst (λ l. AreHired d shows all l (lives ++ its ∷ []) servers) was (subst (λ l. AreHired d shows all now l servers) were given)
 
@@ -77,7 +77,7 @@ module _ {L T : Type 0} (d : Domain) (shows : T → StarterShows) (all : List T)
             each = subst (EachNumbered (IsNewServer d shows) (length left + 1)) (sym turned) (new, subst (λ n. EachNumbered (IsNewServer d shows) n (reverse servers)) next hired.each);
           }
 
-  pub all_hired : (left : List T) (lives : List Restarts) (servers : List (ServerWorker L T)) → left ≡ [] → AreHired d shows all left lives servers → HasServers d shows all (reverse servers)
+  pub all_hired : (left : List T) (lives : List RestartState) (servers : List (ServerWorker L T)) → left ≡ [] → AreHired d shows all left lives servers → HasServers d shows all (reverse servers)
   all_hired left lives servers none hired = record {
     starters_are = ap (λ l. l ++ map starter_of (reverse servers)) (sym none) ∙ hired.starters_are;
     each = subst (λ l. EachNumbered (IsNewServer d shows) (length l + 1) (reverse servers)) none hired.each;

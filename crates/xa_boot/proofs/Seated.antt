@@ -23,10 +23,10 @@ use Rattle.xa_client_worker.specs.xa_held.declared.kept_queue.QueueNote.TheVaria
 use Rattle.xa_client_worker.specs.xa_held.declared.kept_queue.Setting.{Setting}
 use Rattle.xa_client_worker.specs.xa_held.Joins.{changes_at, changes_page, events_at}
 use Rattle.xa_client_worker.specs.xa_held.Notes.{made_page}
-use Rattle.xa_client_worker.specs.xa_worker.Work.{Standing as Working}
+use Rattle.xa_client_worker.specs.xa_worker.Work.{WorkState}
 use Rattle.xa_client_worker.specs.xa_worker.declared.own.Own.{Own}
 use Rattle.xa_client_worker.specs.xa_caller.declared.cargo.Filling.{Filling}
-use Rattle.xa_client_worker.specs.xa_caller.Caller.{Standing as Caller}
+use Rattle.xa_client_worker.specs.xa_caller.Caller.{CallerState}
 use Rattle.xa_client_worker.specs.xa_caller.declared.phase.Phase.TheVariants.{Idle}
 use Rattle.xa_client_worker.specs.xa_server.Told.{EndedFor}
 use Rattle.xa_client_worker.specs.xa_server.Fillings.{WasTaken}
@@ -65,7 +65,7 @@ module _ (d : Domain) (own : List Stamped) (is : IsBoot d.setup own) where
   page_grounded zero = opening_grounded d.setup own own
   page_grounded (suc k) = All-nil (IsGrounded [])
 
-  pub board_pass : (w : Working) (worker : ℕ) (pass : LockPass BoardNote) → IsBoardFor d.board (opening d.setup own) worker pass → w.id.0 ≡ worker → w.own ≡ first_own own worker → w.stamp.0 ≡ length own → IsBoardPass d w pass
+  pub board_pass : (w : WorkState) (worker : ℕ) (pass : LockPass BoardNote) → IsBoardFor d.board (opening d.setup own) worker pass → w.id.0 ≡ worker → w.own ≡ first_own own worker → w.stamp.0 ≡ length own → IsBoardPass d w pass
   board_pass w worker pass its id noted stamp =
       let page : page_of pass ≡ first_page worker Notes = its.page in
       let seen : (page_of pass).seen ≡ Notes = ap (λ (p : Page BoardNote). p.seen) page in
@@ -84,7 +84,7 @@ queue_own : (its : Setting Filling) (worker : ℕ) → noted_in (made_page (firs
 queue_own its zero = refl
 queue_own its (suc k) = refl
 
-pub queue_pass : (d : Domain) (w : Working) (k worker : ℕ) (pass : LockPass (QueueNote Filling)) → IsQueueFor d k worker pass → w.id.0 ≡ worker → filter (stands_at d.setup d.clients (QueueHome (k + 1))) w.own ≡ [] → IsQueuePass d w k pass
+pub queue_pass : (d : Domain) (w : WorkState) (k worker : ℕ) (pass : LockPass (QueueNote Filling)) → IsQueueFor d k worker pass → w.id.0 ≡ worker → filter (stands_at d.setup d.clients (QueueHome (k + 1))) w.own ≡ [] → IsQueuePass d w k pass
 queue_pass d w k worker pass it id none =
     let first : page_of pass ≡ first_page worker (Opened it.its ∷ []) = it.page in
     let seen : (page_of pass).seen ≡ Opened it.its ∷ [] = ap (λ (p : Page (QueueNote Filling)). p.seen) first in
@@ -101,10 +101,10 @@ queue_pass d w k worker pass it id none =
 -- ---- a desk
 
 -- what the caller is
-abbrev pub caller_at : Domain → ℕ → ℕ → Seat Filling → Caller
+abbrev pub caller_at : Domain → ℕ → ℕ → Seat Filling → CallerState
 caller_at d worker least seat = record { work = record { setup = d.setup; clients = d.clients; id = record { 0 = worker }; stamp = d.booted; own = []; room = 0 }; seat = seat; op = 0; sent = 0; least = least; priority = None; phase = Idle }
 
-abbrev pub desk_at : Caller → Post → Desk
+abbrev pub desk_at : CallerState → Post → Desk
 desk_at caller post = record { caller = caller; reader = post.reader; board = Some post.board; queues = post.queues }
 
 module _ (d : Domain) (own : List Stamped) (k : ℕ) (post : Post) (least : ℕ) (is : IsBoot d.setup own) (its : IsPost d own (suc k) post) (reached : d.booted.0 ≡ length own) (version : least ≡ length own) where
@@ -149,16 +149,16 @@ module _ (d : Domain) (own : List Stamped) (k : ℕ) (post : Post) (least : ℕ)
   is_new = record { is = is_desk; id = refl; clients = refl; none = refl; idle = refl; made = refl; queues = λ n within. ap (λ m. (queue_page new m).own) (add-one n) ∙ queue_none n within }
 
 -- a worker's desk, where it isn't the domain itself
-pub new_desk : (d : Domain) (own : List Stamped) (worker : ℕ) (post : Post) (caller : Caller) (least : ℕ) → 0 < worker → IsBoot d.setup own → IsPost d own worker post → d.booted.0 ≡ length own → least ≡ length own → caller ≡ caller_at d worker least post.seat → IsNewDesk d worker (desk_at caller post)
+pub new_desk : (d : Domain) (own : List Stamped) (worker : ℕ) (post : Post) (caller : CallerState) (least : ℕ) → 0 < worker → IsBoot d.setup own → IsPost d own worker post → d.booted.0 ≡ length own → least ≡ length own → caller ≡ caller_at d worker least post.seat → IsNewDesk d worker (desk_at caller post)
 new_desk d own zero post caller least some is its reached version same = absurd (omega (arith, some))
-new_desk d own (suc k) post caller least some is its reached version same = subst (λ (c : Caller). IsNewDesk d (suc k) (desk_at c post)) (sym same) (is_new d own k post least is its reached version)
+new_desk d own (suc k) post caller least some is its reached version same = subst (λ (c : CallerState). IsNewDesk d (suc k) (desk_at c post)) (sym same) (is_new d own k post least is its reached version)
 
 -- ---- the domain itself
 
 pub new_closer : (d : Domain) (own : Own) (post : Post) → IsBoot d.setup own → IsPost d own 0 post → d.booted.0 ≡ length own → IsNewCloser d (record { seat = post.seat; board = Some post.board; queues = post.queues; own = own; seen = d.booted; halt = None })
 new_closer d own post is its reached =
     let closer : Closer = record { seat = post.seat; board = Some post.board; queues = post.queues; own = own; seen = d.booted; halt = None } in
-    let work : Working = work_of d closer in
+    let work : WorkState = work_of d closer in
     let bound = is.bound in
     let page = its.board.page in
     let on : (whole : Whole) → StartsWith whole.board.notes (page_in closer.board).seen → StartsWith whole.board.notes (opening d.setup own) = λ whole begins. subst (λ l. StartsWith whole.board.notes l) (ap (λ (p : Page BoardNote). p.seen) page) begins in

@@ -15,7 +15,7 @@ use Rattle.xa_client_worker.specs.xa_cell.Known.{known, IsSeatOf, IsNew, callers
 use Rattle.xa_client_worker.specs.xa_held.declared.kept_queue.KeptQueue.{KeptQueue}
 use Rattle.xa_client_worker.specs.xa_held.declared.kept_queue.QueueNote.{QueueNote}
 use Rattle.xa_client_worker.specs.xa_held.Board.{IsSoundBoard}
-use Rattle.xa_client_worker.specs.xa_worker.Work.{Standing as Working, IsWorkOf}
+use Rattle.xa_client_worker.specs.xa_worker.Work.{WorkState, IsWorkOf}
 use Rattle.xa_client_worker.specs.xa_caller.declared.cargo.Filling.{Filling}
 use Rattle.xa_client_worker.specs.xa_server.Served.{StarterShows}
 use Rattle.xa_client_worker.specs.xa_desk.declared.domain.Domain.{Domain}
@@ -30,7 +30,7 @@ use Rattle.xa_boot.specs.declared.closer.Closer.{Closer}
 use Rattle.xa_boot.specs.declared.booting.Booted.{Booted}
 
 -- the work of the domain itself
-abbrev pub work_of : Domain → Closer → Working
+abbrev pub work_of : Domain → Closer → WorkState
 work_of d closer = record { setup = d.setup; clients = d.clients; id = record { 0 = 0 }; stamp = closer.seen; own = closer.own; room = 0 }
 
 -- the event is one of the boot's

@@ -1,7 +1,7 @@
 -- The workers with their desks (this project's own).
 use Rattle.std.specs.Prelude.{◌≡◌, ℕ, ◌+◌, ◌++◌, List, length, map, reverse}
 use Rattle.xa_client_worker.specs.xa_events.Words.{EachNumbered}
-use Rattle.xa_client_worker.specs.xa_restart.Rule.{Standing as Restarts}
+use Rattle.xa_client_worker.specs.xa_restart.Rule.{RestartState}
 use Rattle.xa_client_worker.specs.xa_server.Served.{StarterShows}
 use Rattle.xa_client_worker.specs.declared.working.ClientWorker.{ClientWorker}
 use Rattle.xa_server_worker.specs.declared.working.ServerWorker.{ServerWorker}
@@ -28,8 +28,8 @@ pub record HasServers {L T : Type 0} (d : Domain) (shows : T → StarterShows) (
   pub each : EachNumbered (IsNewServer d shows) 1 servers
 
 -- of all these starters those are left, with the lives of their servers, and the servers behind them have their desks, the last one first
-pub record AreHired {L T : Type 0} (d : Domain) (shows : T → StarterShows) (all left : List T) (lives : List Restarts) (servers : List (ServerWorker L T)) : Type 0 where
-  pub lives_are : (later : List Restarts) × (lives ++ later ≡ map restarts_of d.setup.servers)
+pub record AreHired {L T : Type 0} (d : Domain) (shows : T → StarterShows) (all left : List T) (lives : List RestartState) (servers : List (ServerWorker L T)) : Type 0 where
+  pub lives_are : (later : List RestartState) × (lives ++ later ≡ map restarts_of d.setup.servers)
   pub each_lives : length lives ≡ length left
   pub starters_are : left ++ map (λ (w : ServerWorker L T). w.served.starter) (reverse servers) ≡ all
   pub each : EachNumbered (IsNewServer d shows) (length left + 1) (reverse servers)

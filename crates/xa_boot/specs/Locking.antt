@@ -13,7 +13,7 @@ use Rattle.xa_client_worker.specs.xa_lock.declared.pass.LockPass.{LockPass}
 use Rattle.xa_client_worker.specs.xa_lock.Known.{known as page_of, IsPassOf, passes_of}
 use Rattle.xa_client_worker.specs.xa_lock.Pages.{first_page}
 use Rattle.xa_client_worker.specs.xa_cell.declared.cells.Cells.{Cells}
-use Rattle.xa_client_worker.specs.xa_queue.Queue.{Standing}
+use Rattle.xa_client_worker.specs.xa_queue.Queue.{QueueState}
 use Rattle.xa_client_worker.specs.xa_queue.Changes.{opened}
 use Rattle.xa_client_worker.specs.xa_held.declared.cargo.Cargo.{Cargo}
 use Rattle.xa_client_worker.specs.xa_held.declared.kept_queue.KeptQueue.{KeptQueue}
@@ -36,7 +36,7 @@ servers_at setup queue n [] = []
 servers_at setup queue n (server ∷ rest) = cond (queue_named setup server.queue == queue) ((record { 0 = n }) ∷ servers_at setup queue (n + 1) rest) (servers_at setup queue (n + 1) rest)
 
 -- the queue at that place, where nothing came yet
-pub record IsPlain (setup : Setup) (first : Stamp) (place : ℕ) (queue : Standing (Cargo Filling)) : Type 0 where
+pub record IsPlain (setup : Setup) (first : Stamp) (place : ℕ) (queue : QueueState (Cargo Filling)) : Type 0 where
   pub servers : List ServerId
   pub is : queue ≡ opened (record { 0 = place + 1 }) (capacity_of setup (place + 1)) servers first
   pub has : HasServers setup (place + 1) servers

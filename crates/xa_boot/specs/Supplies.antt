@@ -16,7 +16,7 @@ use Rattle.xa_client_worker.specs.xa_held.Board.{Held}
 use Rattle.xa_client_worker.specs.xa_held.declared.kept_board.BoardNote.{BoardNote}
 use Rattle.xa_client_worker.specs.xa_held.declared.kept_queue.QueueNote.{QueueNote}
 use Rattle.xa_client_worker.specs.xa_caller.declared.cargo.Filling.{Filling}
-use Rattle.xa_client_worker.specs.xa_restart.Rule.{Standing as Restarts}
+use Rattle.xa_client_worker.specs.xa_restart.Rule.{RestartState}
 use Rattle.xa_boot.specs.declared.boards.OpenBoard.{OpenBoard}
 use Rattle.xa_boot.specs.declared.rooms.Supplies.{Supplies}
 use Rattle.xa_boot.specs.Opening.{IsBoot, opening}
@@ -27,7 +27,7 @@ limit_of clients zero = 1
 limit_of clients (suc k) = descriptor_limit clients (suc k)
 
 -- a server that was never started, by its configured rule
-abbrev pub restarts_of : ServerSetup → Restarts
+abbrev pub restarts_of : ServerSetup → RestartState
 restarts_of server = record { restart = server.restart; maxgen = server.maxgen; grace = server.grace; starts = [] }
 
 -- the maker's pass of a board on which the domain noted these

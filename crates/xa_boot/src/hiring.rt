@@ -3,7 +3,7 @@ ghost use Rattle.std.specs.Prelude.{◌≡◌, ◌+◌, ◌<◌, ◌≤◌, [], 
 ghost use Rattle.std.specs.List.{All};
 ghost use Rattle.xa_client_worker.specs.xa_types.Configured.{is_configured};
 ghost use Rattle.xa_server_worker.specs.Lives.{HasStarted};
-ghost use Rattle.xa_client_worker.specs.xa_restart.Rule.{Standing as Restarts};
+ghost use Rattle.xa_client_worker.specs.xa_restart.Rule.{RestartState};
 ghost use Rattle.xa_client_worker.specs.xa_desk.Desks.{IsDomain};
 ghost use Rattle.xa_boot.specs.Booting.{IsNewServer, IsNewCloser};
 ghost use Rattle.xa_boot.specs.Supplies.{restarts_of};

@@ -15,7 +15,7 @@ use Rattle.xa_cell.specs.Known.{known, SameSeat}
 use Rattle.xa_cell.specs.Calls.{AllTaken, NoneFree, TookAs}
 use Rattle.xa_cell.specs.Places.{OpenAre, Stand, StandsAt}
 use Rattle.xa_cell.proofs.Lists.{decided}
-use Rattle.xa_worker.specs.Work.{Standing as Working}
+use Rattle.xa_worker.specs.Work.{WorkState}
 use Rattle.xa_caller.specs.declared.caller.Caller.TheInside.{Inside}
 use Rattle.xa_caller.specs.declared.cargo.Filling.{Filling}
 use Rattle.xa_caller.specs.declared.phase.Phase.{Phase}
@@ -29,9 +29,9 @@ holds-more setup id room more op sent least priority (Prepared draft) h = let so
 holds-more setup id room more op sent least priority (Sent out) h = let some = h.0 in (omega (arith, some), h.1, h.2)
 holds-more setup id room more op sent least priority (Lost request) h = tt
 
-pub more_room : (c : Inside) (w : Working) (more : ℕ) → IsKept c → w ≡ record c.work { room = max c.work.room more } → IsKept (record c { work = w })
+pub more_room : (c : Inside) (w : WorkState) (more : ℕ) → IsKept c → w ≡ record c.work { room = max c.work.room more } → IsKept (record c { work = w })
 more_room c w more i is =
-    subst (λ (v : Working). IsKept (record c { work = v })) (sym is) (record {
+    subst (λ (v : WorkState). IsKept (record c { work = v })) (sym is) (record {
       sound = record { reads = i.sound.reads };
       holds = holds-more c.work.setup c.work.id c.work.room more c.op c.sent c.least c.priority c.phase i.holds;
       places = i.places;
@@ -39,9 +39,9 @@ more_room c w more i is =
       few = i.few;
     })
 
-pub reserved : {X Y : Type 0} (c : Inside) (w : Working) (more : ℕ) (r : Result X Y) → IsKept c → OnOk r (w ≡ record c.work { room = max c.work.room more }) → OnErr r (w ≡ c.work) → IsKept (record c { work = w })
+pub reserved : {X Y : Type 0} (c : Inside) (w : WorkState) (more : ℕ) (r : Result X Y) → IsKept c → OnOk r (w ≡ record c.work { room = max c.work.room more }) → OnErr r (w ≡ c.work) → IsKept (record c { work = w })
 reserved c w more (Ok x) i ok kept = more_room c w more i ok
-reserved c w more (Err y) i ok kept = subst (λ (v : Working). IsKept (record c { work = v })) (sym kept) i
+reserved c w more (Err y) i ok kept = subst (λ (v : WorkState). IsKept (record c { work = v })) (sym kept) i
 
 pub on_err : {X Y P : Type 0} (r : Result X Y) → is_err r ≡ true → OnErr r P → P
 on_err (Ok x) failed holds = absurd (false≢true failed)

@@ -28,14 +28,14 @@ use Rattle.xa_events.specs.Calls.{is_invalid_ask, is_invalid_call}
 use Rattle.xa_types.specs.Name.{is_name}
 use Rattle.xa_types.specs.declared.call.Ask.{Ask}
 use Rattle.xa_events.proofs.WordsLemmas.{same_request_of}
-use Rattle.xa_worker.specs.Work.{Standing as Working, IsNext, theirs}
+use Rattle.xa_worker.specs.Work.{WorkState, IsNext, theirs}
 use Rattle.xa_caller.specs.declared.phase.Open.{Open}
 use Rattle.xa_caller.specs.declared.phase.Phase.TheVariants.{Idle, Sent}
 use Rattle.xa_caller.specs.Phases.{just_in, open_in}
-use Rattle.xa_caller.specs.Caller.{Standing, IsSound, MayCall}
+use Rattle.xa_caller.specs.Caller.{CallerState, IsSound, MayCall}
 
 -- a caller that may make a call is active
-pub is_active_now : (c : Standing) → IsSound c → MayCall c → is_active c.work.clients c.work.id.0 (theirs c.work) ≡ true
+pub is_active_now : (c : CallerState) → IsSound c → MayCall c → is_active c.work.clients c.work.id.0 (theirs c.work) ≡ true
 is_active_now c sound (inl known) = rw (known, sound.reads.stands, sound.reads.stays) refl
 is_active_now c sound (inr serves) =
     elim (cases_Bool (is_client c.work.clients c.work.id.0)) [
@@ -43,10 +43,10 @@ is_active_now c sound (inr serves) =
       | inr other ↦ rw other serves
     ]
 
-next_call : (c : Standing) → IsSound c → MayCall c → (op : ℕ) → op ≡ c.op + 1 → IsNextCall c.work.clients c.work.id.0 op (theirs c.work)
+next_call : (c : CallerState) → IsSound c → MayCall c → (op : ℕ) → op ≡ c.op + 1 → IsNextCall c.work.clients c.work.id.0 op (theirs c.work)
 next_call c sound may op next = record { active = is_active_now c sound may; next = next ∙ ap (λ n. n + 1) (sym sound.reads.called) }
 
-pub refuses_next : (c : Standing) → IsSound c → MayCall c → (r : RefusedCall) → r.by ≡ c.work.id → r.op ≡ c.op + 1 → ShowsItself c.work.setup c.work.clients c.work.id.0 r.fault r.evidence (theirs c.work) → IsOwnEvidence c.work.clients c.work.id r.evidence (theirs c.work)
+pub refuses_next : (c : CallerState) → IsSound c → MayCall c → (r : RefusedCall) → r.by ≡ c.work.id → r.op ≡ c.op + 1 → ShowsItself c.work.setup c.work.clients c.work.id.0 r.fault r.evidence (theirs c.work) → IsOwnEvidence c.work.clients c.work.id r.evidence (theirs c.work)
     → IsNext c.work (Refuse r)
 refuses_next c sound may r by next shows own = record {
   its = ap (λ (id : CallerId). id.0) by;
@@ -63,20 +63,20 @@ some_limit clients caller = elim (cases_Bool (is_client clients caller)) [
   | inr n ↦ subst (λ n. 0 < n) (sym (ap (λ b. if b then 50 else 16) n)) (omega arith)
 ]
 
-set_now : (c : Standing) → IsSound c → next_priority c.work.clients c.work.id.0 (theirs c.work) ≡ c.priority
+set_now : (c : CallerState) → IsSound c → next_priority c.work.clients c.work.id.0 (theirs c.work) ≡ c.priority
 unfolding next_priority
 set_now c sound = sound.reads.set
 
-pub sets_next : (c : Standing) → IsSound c → MayCall c → (p : Prioritized) → p.by ≡ c.work.id → p.op ≡ c.op + 1 → IsNext c.work (Priority p)
+pub sets_next : (c : CallerState) → IsSound c → MayCall c → (p : Prioritized) → p.by ≡ c.work.id → p.op ≡ c.op + 1 → IsNext c.work (Priority p)
 sets_next c sound may p by next = record {
   its = ap (λ (id : CallerId). id.0) by;
   met = record { call = subst (λ (id : CallerId). IsNextCall c.work.clients id.0 p.op (theirs c.work)) (sym by) (next_call c sound may p.op next) };
 }
 
-pub accepts_next : (c : Standing) → IsSound c → MayCall c → (a : Accepted) → a.by ≡ c.work.id → a.op ≡ c.op + 1 → a.request ≡ record { caller = c.work.id; number = c.sent + 1 } → a.mode ≡ Reply → is_sound c.work.setup a.payload ≡ true → c.least ≤ a.version
+pub accepts_next : (c : CallerState) → IsSound c → MayCall c → (a : Accepted) → a.by ≡ c.work.id → a.op ≡ c.op + 1 → a.request ≡ record { caller = c.work.id; number = c.sent + 1 } → a.mode ≡ Reply → is_sound c.work.setup a.payload ≡ true → c.least ≤ a.version
     → a.priority ≡ priority_by c.work.setup a.service c.priority → open_in c.phase ≡ [] → IsNext c.work (Accept a)
 accepts_next c sound may a by next mine mode fine recent priority none =
-    let w : Working = c.work in
+    let w : WorkState = c.work in
     let floor = sound.reads.floor in
     let room : HasRoom w.clients w.id.0 Reply (theirs w) = subst (λ (rs : List RequestId). length rs < descriptor_limit w.clients w.id.0) (sym (sound.reads.descriptors ∙ none)) (some_limit w.clients w.id.0) in
     record {
@@ -92,9 +92,9 @@ accepts_next c sound may a by next mine mode fine recent priority none =
       };
     }
 
-pub answers_next : (c : Standing) → IsSound c → MayCall c → (a : Replied) (sent : Open) → a.by ≡ c.work.id → a.op ≡ c.op → a.request ≡ sent.request → sent.request.caller ≡ c.work.id → c.phase ≡ Sent sent → IsNext c.work (Answer a)
+pub answers_next : (c : CallerState) → IsSound c → MayCall c → (a : Replied) (sent : Open) → a.by ≡ c.work.id → a.op ≡ c.op → a.request ≡ sent.request → sent.request.caller ≡ c.work.id → c.phase ≡ Sent sent → IsNext c.work (Answer a)
 answers_next c sound may a sent by op same mine is =
-    let w : Working = c.work in
+    let w : WorkState = c.work in
     let just : just_accepted w.id.0 (theirs w) ≡ Some a.request = sound.reads.just ∙ ap just_in is ∙ ap Some (sym same) in
     let out : open_descriptors w.id.0 (theirs w) ≡ a.request ∷ [] = sound.reads.descriptors ∙ ap open_in is ∙ ap (λ r. r ∷ []) (sym same) in
     record {
@@ -107,7 +107,7 @@ answers_next c sound may a sent by op same mine is =
       };
     }
 
-pub leaves_next : (c : Standing) → IsSound c → is_client c.work.clients c.work.id.0 ≡ true → c.phase ≡ Idle → (id : CallerId) → id ≡ c.work.id → IsNext c.work (Leave id)
+pub leaves_next : (c : CallerState) → IsSound c → is_client c.work.clients c.work.id.0 ≡ true → c.phase ≡ Idle → (id : CallerId) → id ≡ c.work.id → IsNext c.work (Leave id)
 leaves_next c sound known idle id is =
     subst (λ (i : CallerId). IsNext c.work (Leave i)) (sym is) (record {
       its = refl;

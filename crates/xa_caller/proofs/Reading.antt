@@ -25,7 +25,7 @@ use Rattle.xa_events.specs.Views.{newer, CallerView, caller_view, caller_after}
 use Rattle.xa_events.proofs.Owns.{caller_more}
 use Rattle.xa_events.proofs.WordsLemmas.{same_request_of, greatest_one_more, if_some}
 use Rattle.xa_stamp.specs.declared.home.Stamped.{Stamped}
-use Rattle.xa_worker.specs.Work.{Standing as Working, noted}
+use Rattle.xa_worker.specs.Work.{WorkState, noted}
 use Rattle.xa_worker.proofs.Noting.{theirs-more}
 use Rattle.xa_caller.specs.declared.phase.Open.{Open}
 use Rattle.xa_caller.specs.declared.phase.Phase.{Phase}
@@ -41,10 +41,10 @@ use Rattle.xa_caller.specs.declared.phase.Phase.TheVariants.{Prepared, Lost}
 use Rattle.xa_caller.specs.declared.outcomes.Stop.{Stop as StopOf}
 use Rattle.xa_caller.specs.declared.outcomes.Stop.TheVariants.{Refused, Halt}
 use Rattle.xa_caller.specs.Changes.{TurnsDown, StopsAs}
-use Rattle.xa_caller.specs.Caller.{Standing, Reads, view_of}
+use Rattle.xa_caller.specs.Caller.{CallerState, Reads, view_of}
 
 -- the view of all that the worker noted, with one event more
-pub view-more : (w : Working) (x : Stamped) → worker_of w.clients x.event ≡ w.id.0 → view_of (noted x w) ≡ caller_after w.clients w.id.0 x.event (view_of w)
+pub view-more : (w : WorkState) (x : Stamped) → worker_of w.clients x.event ≡ w.id.0 → view_of (noted x w) ≡ caller_after w.clients w.id.0 x.event (view_of w)
 view-more w x its = ap (caller_view w.clients w.id.0) (theirs-more w x its) ∙ caller_more w.clients w.id.0 x.event _
 
 without_none : (out : Option RequestId) → without out [] ≡ []
@@ -201,7 +201,7 @@ aside_elsewhere setup clients worker (Gone s) kind = refl
 aside_elsewhere setup clients worker _ kind = absurd kind
 
 -- before any event
-pub reads_nothing : (w : Working) (least : ℕ) → w.own ≡ [] → boot w.setup ≤ least → Reads w.setup (view_of w) 0 0 least None Idle
+pub reads_nothing : (w : WorkState) (least : ℕ) → w.own ≡ [] → boot w.setup ≤ least → Reads w.setup (view_of w) 0 0 least None Idle
 unfolding newest_call accepted open_descriptors versions ticks has_left is_leaving connections
 reads_nothing w least none low =
     subst (λ (own : List Stamped). Reads w.setup (caller_view w.clients w.id.0 (worker_events w.clients w.id.0 (past_in own))) 0 0 least None Idle) (sym none)
@@ -231,6 +231,6 @@ reads_unsent setup view op n least priority phase phase' draft was is reads =
     let r = subst (Reads setup view op n least priority) was reads in
     subst (Reads setup view op n least priority) (sym is) (record { called = r.called; just = r.just; accepted = r.accepted; descriptors = r.descriptors; floor = r.floor; stands = r.stands; stays = r.stays; set = r.set; unconnected = r.unconnected })
 
-pub stops_from : (setup : Setup) (op : ℕ) (payload : Data) (found : FoundRows) (stop : StopOf) (new old : Standing) → find (λ (row : Row). is_accepted setup row.accepts (kind_of payload)) found.rows ≡ None → TurnsDown op found stop new old → StopsAs setup op payload found stop new old
+pub stops_from : (setup : Setup) (op : ℕ) (payload : Data) (found : FoundRows) (stop : StopOf) (new old : CallerState) → find (λ (row : Row). is_accepted setup row.accepts (kind_of payload)) found.rows ≡ None → TurnsDown op found stop new old → StopsAs setup op payload found stop new old
 stops_from setup op payload found (Refused stamp) new old none turned = inl (none, turned)
 stops_from setup op payload found (Halt halt) new old none turned = turned

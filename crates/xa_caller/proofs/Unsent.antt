@@ -16,7 +16,7 @@ use Rattle.xa_caller.specs.declared.phase.Draft.{Draft}
 use Rattle.xa_caller.specs.declared.phase.Phase.TheVariants.{Idle, Prepared}
 use Rattle.xa_caller.specs.declared.outcomes.Step.{Step}
 use Rattle.xa_caller.specs.declared.outcomes.Why.{Why}
-use Rattle.xa_caller.specs.Caller.{Standing}
+use Rattle.xa_caller.specs.Caller.{CallerState}
 use Rattle.xa_caller.specs.Changes.{Refuses}
 use Rattle.xa_caller.specs.Unsent.{step, refused_for, other_step, EndsAs, UnsentAs}
 
@@ -26,7 +26,7 @@ at-all P [] k x is all = absurd (cc is)
 at-all P (y ∷ ys) zero x is all = subst P (cc is) (All-head P y ys all)
 at-all P (y ∷ ys) (suc k) x is all = at-all P ys k x is (All-tail P y ys all)
 
-module _ (cell : ℕ) (why : Why) (no_block : Bool) (draft : Draft) (seat : Seat Filling) (new left old : Standing) (was : old.phase ≡ Prepared draft) (back : known seat ≡ withdrawn cell (known old.seat))
+module _ (cell : ℕ) (why : Why) (no_block : Bool) (draft : Draft) (seat : Seat Filling) (new left old : CallerState) (was : old.phase ≡ Prepared draft) (back : known seat ≡ withdrawn cell (known old.seat))
     (made : left ≡ record old { seat = seat; phase = Idle }) where
   ends_as : (step : Step) → EndsAs draft.op (refused_for draft why no_block) (other_step why) step new left → UnsentAs cell why no_block step new old
   ends_as step ends = record { draft = draft; was = was; seat = seat; back = back; ends = subst (EndsAs draft.op (refused_for draft why no_block) (other_step why) step new) made ends }

@@ -9,7 +9,7 @@ use Rattle.xa_events.specs.Board.{boot}
 use Rattle.xa_events.specs.Caller.{op_of, accepted_in, priority_asked, is_client, is_serving}
 use Rattle.xa_events.specs.Views.{CallerView, caller_view}
 use Rattle.xa_cell.specs.declared.tokens.Seat.{Seat}
-use Rattle.xa_worker.specs.Work.{Standing as Working, theirs}
+use Rattle.xa_worker.specs.Work.{WorkState, theirs}
 use Rattle.xa_caller.specs.declared.cargo.Filling.{Filling}
 use Rattle.xa_caller.specs.declared.phase.Phase.{Phase}
 use Rattle.xa_caller.specs.Phases.{just_in, open_in}
@@ -17,8 +17,8 @@ use Rattle.xa_caller.specs.Phases.{just_in, open_in}
 -- what a caller is, a client or the caller of a server: its work, its seat among the reply cells, the number of its last call, how many requests of it were accepted, the least
 -- version of the board that it may still read, the priority that it set for its next request, absolute or to be added to the service's own, if it set one,
 -- and where its call stands; it hasn't left and begun no conversation
-pub record Standing : Type 0 where
-  pub work : Working
+pub record CallerState : Type 0 where
+  pub work : WorkState
   pub seat : Seat Filling
   pub op : ℕ
   pub sent : ℕ
@@ -39,15 +39,15 @@ pub record Reads (setup : Setup) (view : CallerView) (op sent least : ℕ) (prio
   pub unconnected : view.connections ≡ []
 
 -- what is read off all that a worker noted
-abbrev pub view_of : Working → CallerView
+abbrev pub view_of : WorkState → CallerView
 view_of w = caller_view w.clients w.id.0 (theirs w)
 
 -- what holds of each caller: its tables are what its events say
-pub record IsSound (c : Standing) : Type 0 where
+pub record IsSound (c : CallerState) : Type 0 where
   pub reads : Reads c.work.setup (view_of c.work) c.op c.sent c.least c.priority c.phase
 
 -- it may make a call: it is a client, or its server has a request in hand
-abbrev pub MayCall : Standing → Type 0
+abbrev pub MayCall : CallerState → Type 0
 MayCall c = (is_client c.work.clients c.work.id.0 ≡ true) ⊎ (is_serving c.work.clients c.work.id.0 (theirs c.work) ≡ true)
 
 -- these are rows of the service, as the setup gives them

@@ -28,7 +28,7 @@ use Rattle.xa_cell.specs.declared.view.View.{View}
 use Rattle.xa_cell.specs.Calls.{Began, AllTaken}
 use Rattle.xa_worker.specs.declared.work.Halt.{Halt}
 use Rattle.xa_worker.specs.declared.work.Halt.TheVariants.{Worn}
-use Rattle.xa_worker.specs.Work.{Standing as Working, noted, seeing, HaltsAt}
+use Rattle.xa_worker.specs.Work.{WorkState, noted, seeing, HaltsAt}
 use Rattle.xa_caller.specs.declared.cargo.Filling.{Filling}
 use Rattle.xa_caller.specs.declared.phase.Open.{Open}
 use Rattle.xa_caller.specs.declared.phase.Draft.{Draft}
@@ -40,33 +40,33 @@ use Rattle.xa_caller.specs.declared.outcomes.Step.{Step}
 use Rattle.xa_caller.specs.declared.outcomes.Step.TheVariants as steps
 use Rattle.xa_caller.specs.Phases.{least_by}
 use Rattle.xa_caller.specs.Drafts.{accepted_by, entry_by}
-use Rattle.xa_caller.specs.Caller.{Standing}
+use Rattle.xa_caller.specs.Caller.{CallerState}
 
 -- the event is noted with the next stamp of the caller as it stood then, and the caller is else as `left`
-pub record Notes (stamp : Stamp) (event : Event) (left new : Standing) : Type 0 where
+pub record Notes (stamp : Stamp) (event : Event) (left new : CallerState) : Type 0 where
   pub next : stamp.0 ≡ left.work.stamp.0 + 1
   pub bound : stamp.0 ≤ 2 ^ 63
   pub made : new ≡ record left { work = noted (record { stamp = stamp; event = event }) left.work }
 
 -- ---- refuse
 
-abbrev pub refused : ℕ → Fault → Evidence → Standing → Event
+abbrev pub refused : ℕ → Fault → Evidence → CallerState → Event
 refused op fault evidence c = Refuse (record { by = c.work.id; op = op; fault = fault; evidence = evidence })
 
 -- the call is refused
-abbrev pub Refuses : ℕ → Fault → Evidence → Stamp → Standing → Standing → Type 0
+abbrev pub Refuses : ℕ → Fault → Evidence → Stamp → CallerState → CallerState → Type 0
 Refuses op fault evidence stamp new old = Notes stamp (refused op fault evidence old) (record old { op = op; least = least_by (version_in evidence) old.least }) new
 
 -- ---- set_priority
 
 -- the caller set the priority of its next request, absolute or to be added to the service's own
-abbrev pub SetsPriority : ℕ → Bool → ℤ → Stamp → Standing → Standing → Type 0
+abbrev pub SetsPriority : ℕ → Bool → ℤ → Stamp → CallerState → CallerState → Type 0
 SetsPriority op absolute amount stamp new old = Notes stamp (Priority (record { by = old.work.id; op = op; absolute = absolute; amount = amount })) (record old { op = op; priority = Some (absolute, amount) }) new
 
 -- ---- leave
 
 -- a client leaves with the next stamp, or, where memory or stamps came to their end, without an event; the caller of a server leaves without one
-abbrev pub LeavesAs : Option Halt → Working → Working → Type 0
+abbrev pub LeavesAs : Option Halt → WorkState → WorkState → Type 0
 LeavesAs None new old = ((is_client old.clients old.id.0 ≡ true) × ((stamp : Stamp) × (stamp.0 ≡ old.stamp.0 + 1) × (new ≡ noted (record { stamp = stamp; event = Leave old.id }) old)))
     ⊎ ((is_client old.clients old.id.0 ≡ false) × (new ≡ old))
 LeavesAs (Some halt) new old = (is_client old.clients old.id.0 ≡ true) × HaltsAt old.stamp halt × (new ≡ old)
@@ -79,7 +79,7 @@ pub record FillsNoMore (v w : View Filling) : Type 0 where
 -- ---- prepare
 
 -- the cell of the caller that the request got, and what it is put on a queue with
-pub record Prepares (setup : Setup) (cells : CellsOf Filling) (op : ℕ) (payload : Data) (found : FoundRows) (prepared : Made) (new old : Standing) : Type 0 where
+pub record Prepares (setup : Setup) (cells : CellsOf Filling) (op : ℕ) (payload : Data) (found : FoundRows) (prepared : Made) (new old : CallerState) : Type 0 where
   pub row : Row
   pub chosen : find (λ (row : Row). is_accepted setup row.accepts (kind_of payload)) found.rows ≡ Some row
   pub draft : Draft
@@ -95,19 +95,19 @@ stop (Ok stamp) = stops.Refused stamp
 stop (Err halt) = stops.Halt halt
 
 -- no row was found, or none that takes the kind of the data; where memory or stamps came to their end nothing changes
-abbrev pub TurnsDown : ℕ → FoundRows → Stop → Standing → Standing → Type 0
+abbrev pub TurnsDown : ℕ → FoundRows → Stop → CallerState → CallerState → Type 0
 TurnsDown op found (stops.Refused stamp) new old = ((found.rows ≡ []) × Refuses op NoEnt (Version found.version) stamp new old)
     ⊎ ((found.rows ≢ []) × Refuses op IType (Version found.version) stamp new old)
 TurnsDown op found (stops.Halt halt) new old = HaltsAt old.work.stamp halt × (new ≡ old)
 
 -- all cells were looked at, and none was free
-pub record Limits (op : ℕ) (stamp : Stamp) (new old : Standing) : Type 0 where
+pub record Limits (op : ℕ) (stamp : Stamp) (new old : CallerState) : Type 0 where
   pub seat : Seat Filling
   pub taken : AllTaken old.seat seat
   pub refuses : Refuses op Limit (Cells old.seat.count) stamp new (record old { work = record old.work { room = max old.work.room 1 }; seat = seat })
 
 -- why no request is made: no row that was found takes the kind of the data, or else all cells are in use, or memory or stamps came to their end
-abbrev pub StopsAs : Setup → ℕ → Data → FoundRows → Stop → Standing → Standing → Type 0
+abbrev pub StopsAs : Setup → ℕ → Data → FoundRows → Stop → CallerState → CallerState → Type 0
 StopsAs setup op payload found (stops.Refused stamp) new old =
     ((find (λ (row : Row). is_accepted setup row.accepts (kind_of payload)) found.rows ≡ None) × TurnsDown op found (stops.Refused stamp) new old)
     ⊎ (IsSome (find (λ (row : Row). is_accepted setup row.accepts (kind_of payload)) found.rows) × Limits op stamp new old)
@@ -116,7 +116,7 @@ StopsAs setup op payload found (stops.Halt halt) new old = HaltsAt old.work.stam
 -- ---- sent
 
 -- the request was accepted as it was drafted, with that stamp, and what was set for its priority is set no more
-pub record Sends (stamp : Stamp) (new old : Standing) : Type 0 where
+pub record Sends (stamp : Stamp) (new old : CallerState) : Type 0 where
   pub draft : Draft
   pub was : old.phase ≡ Prepared draft
   pub made : new ≡ record old { work = noted (record { stamp = stamp; event = draft.event.value }) old.work; op = draft.op; sent = old.sent + 1; least = draft.version; priority = None; phase = Sent draft.asked }
@@ -124,7 +124,7 @@ pub record Sends (stamp : Stamp) (new old : Standing) : Type 0 where
 -- ---- reply
 
 -- the answer was taken from the cell, and the caller is told it
-pub record Answers (expect : Option Kind) (stamp : Stamp) (new old : Standing) : Type 0 where
+pub record Answers (expect : Option Kind) (stamp : Stamp) (new old : CallerState) : Type 0 where
   pub sent : Open
   pub was : old.phase ≡ Sent sent
   pub asked : (at sent.place.cell (known old.seat)).asked ≡ sent.request ∷ []
@@ -136,7 +136,7 @@ pub record Answers (expect : Option Kind) (stamp : Stamp) (new old : Standing) :
       (record old { work = record (seeing filling.stamp old.work) { room = old.work.room - 1 }; seat = new.seat; phase = Idle }) new
 
 -- the answer was taken from the cell, and stamps had come to their end: nothing was noted, and it is lost
-pub record Loses (halt : Halt) (new old : Standing) : Type 0 where
+pub record Loses (halt : Halt) (new old : CallerState) : Type 0 where
   pub sent : Open
   pub was : old.phase ≡ Sent sent
   pub filling : Filling
@@ -148,7 +148,7 @@ pub record Loses (halt : Halt) (new old : Standing) : Type 0 where
   pub made : new ≡ record old { work = seeing filling.stamp old.work; seat = new.seat; phase = Lost sent.request }
 
 -- the cell was filled without an answer, since the run halts: nothing was noted
-pub record Abandons (new old : Standing) : Type 0 where
+pub record Abandons (new old : CallerState) : Type 0 where
   pub sent : Open
   pub was : old.phase ≡ Sent sent
   pub filling : Filling
@@ -157,7 +157,7 @@ pub record Abandons (new old : Standing) : Type 0 where
   pub made : new ≡ record old { seat = new.seat; phase = Lost sent.request }
 
 -- what a look at the reply comes to; at the last stamp the answer is lost
-abbrev pub StepsAs : Option Kind → Step → Standing → Standing → Type 0
+abbrev pub StepsAs : Option Kind → Step → CallerState → CallerState → Type 0
 StepsAs expect (steps.Told stamp) new old = Answers expect stamp new old
 StepsAs expect steps.Wait new old = (sent : Open) × (old.phase ≡ Sent sent) × (known new.seat ≡ looked sent.place.cell 1 (known old.seat)) × (new ≡ record old { seat = new.seat })
 StepsAs expect (steps.Halt halt) new old = Loses halt new old

@@ -18,9 +18,9 @@ use Rattle.xa_caller.specs.declared.phase.Draft.{Draft}
 use Rattle.xa_caller.specs.declared.phase.Phase.{Phase}
 use Rattle.xa_caller.specs.declared.phase.Phase.TheVariants.{Idle, Prepared, Sent, Lost}
 use Rattle.xa_caller.specs.Phases.{places_in}
-use Rattle.xa_caller.specs.Caller.{Standing, IsSound}
+use Rattle.xa_caller.specs.Caller.{CallerState, IsSound}
 
-abbrev pub standing_of : Inside → Standing
+abbrev pub standing_of : Inside → CallerState
 standing_of c = record { work = c.work; seat = c.seat; op = c.op; sent = c.sent; least = c.least; priority = c.priority; phase = c.phase }
 
 -- the draft is of the caller's next request

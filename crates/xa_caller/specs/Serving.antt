@@ -5,7 +5,7 @@ use Rattle.xa_events.specs.declared.event.Event.{Event}
 use Rattle.xa_events.specs.declared.event.Event.TheVariants.{Take, Forward, Gone, Start, StartFailed, End, Stop}
 use Rattle.xa_events.specs.Caller.{version_of}
 use Rattle.xa_worker.specs.Work.{noted, noted_here}
-use Rattle.xa_caller.specs.Caller.{Standing}
+use Rattle.xa_caller.specs.Caller.{CallerState}
 
 -- it is of the server's lives and of its requests' ends, and stands at its caller's own home
 abbrev pub IsOfServer : Event → Type 0
@@ -36,13 +36,13 @@ raised None least = least
 raised (Some version) least = max least version
 
 -- the event is noted at the caller's own home
-abbrev pub noted_own : Stamp → Event → Standing → Standing
+abbrev pub noted_own : Stamp → Event → CallerState → CallerState
 noted_own stamp event c = record c { work = noted_here (record { stamp = stamp; event = event }) c.work; least = raised (version_ended event) c.least }
 
 -- the event was noted at another home
-abbrev pub noted_off : Stamp → Event → Standing → Standing
+abbrev pub noted_off : Stamp → Event → CallerState → CallerState
 noted_off stamp event c = record c { work = noted (record { stamp = stamp; event = event }) c.work }
 
 -- a forward by that version was noted at a queue, and what was set for the next request's priority is set no more
-abbrev pub forwarded_off : Stamp → ℕ → Event → Standing → Standing
+abbrev pub forwarded_off : Stamp → ℕ → Event → CallerState → CallerState
 forwarded_off stamp version event c = record c { work = noted (record { stamp = stamp; event = event }) c.work; least = version; priority = None }

@@ -29,7 +29,7 @@ use Rattle.xa_caller.specs.declared.outcomes.Why.TheVariants as reasons
 use Rattle.xa_caller.specs.declared.outcomes.Aimed.{Aimed}
 use Rattle.xa_caller.specs.declared.outcomes.Aimed.TheVariants as aims
 use Rattle.xa_caller.specs.Drafts.{Cargo, accepted_by, entry_by}
-use Rattle.xa_caller.specs.Caller.{Standing}
+use Rattle.xa_caller.specs.Caller.{CallerState}
 use Rattle.xa_caller.specs.Changes.{Refuses}
 
 abbrev pub step : Result Stamp Halt → Step
@@ -37,7 +37,7 @@ step (Ok stamp) = steps.Told stamp
 step (Err halt) = steps.Halt halt
 
 -- the call is refused by itself; where memory or stamps came to their end nothing changes
-abbrev pub ChecksAs : ℕ → Stop → Standing → Standing → Type 0
+abbrev pub ChecksAs : ℕ → Stop → CallerState → CallerState → Type 0
 ChecksAs op (stops.Refused stamp) new old = Refuses op Inval Argument stamp new old
 ChecksAs op (stops.Halt halt) new old = HaltsAt old.work.stamp halt × (new ≡ old)
 
@@ -48,7 +48,7 @@ abbrev pub aimed_at : Entry Cargo → Row → Option (Bool × ℤ) → Entry Car
 aimed_at entry row asked = entry_by entry.request row asked entry.cargo.invocation.payload entry.cargo.ticket
 
 -- the request is aimed by that row
-pub record AimsAt (row : Row) (entry aimed : Entry Cargo) (event : Event) (new old : Standing) : Type 0 where
+pub record AimsAt (row : Row) (entry aimed : Entry Cargo) (event : Event) (new old : CallerState) : Type 0 where
   pub draft : Draft
   pub was : old.phase ≡ Prepared draft
   pub entered : aimed ≡ aimed_at entry row old.priority
@@ -59,7 +59,7 @@ pub record AimsAt (row : Row) (entry aimed : Entry Cargo) (event : Event) (new o
   pub made : new ≡ record old { phase = Prepared redrawn }
 
 -- it is aimed by the row at that attempt, or there is none; where it isn't aimed nothing changes
-abbrev pub AimsAs : Entry Cargo → List Row → ℕ → Aimed → Standing → Standing → Type 0
+abbrev pub AimsAs : Entry Cargo → List Row → ℕ → Aimed → CallerState → CallerState → Type 0
 AimsAs entry rows attempt (aims.At aimed event) new old = (row : Row) × (slice_get rows attempt ≡ Some row) × AimsAt row entry aimed event new old
 AimsAs entry rows attempt (aims.Past back) new old = (slice_get rows attempt ≡ None) × (back ≡ entry) × (new ≡ old)
 AimsAs entry rows attempt (aims.NoMemory back) new old = (back ≡ entry) × (new ≡ old)
@@ -89,7 +89,7 @@ abbrev pub other_step : Why → Step
 other_step (reasons.Halt halt) = steps.Halt halt
 other_step why = steps.Wait
 
-abbrev pub EndsAs : ℕ → Option (Fault × Evidence) → Step → Step → Standing → Standing → Type 0
+abbrev pub EndsAs : ℕ → Option (Fault × Evidence) → Step → Step → CallerState → CallerState → Type 0
 EndsAs op (Some (fault, evidence)) other (steps.Told stamp) new left = Refuses op fault evidence stamp new left
 EndsAs op (Some (fault, evidence)) other (steps.Halt halt) new left = HaltsAt left.work.stamp halt × (new ≡ left)
 EndsAs op (Some (fault, evidence)) other steps.Wait new left = ⊥
@@ -97,7 +97,7 @@ EndsAs op (Some (fault, evidence)) other steps.Halted new left = ⊥
 EndsAs op None other step new left = (step ≡ other) × (new ≡ left)
 
 -- its place was given back in any case
-pub record UnsentAs (cell : ℕ) (why : Why) (no_block : Bool) (step : Step) (new old : Standing) : Type 0 where
+pub record UnsentAs (cell : ℕ) (why : Why) (no_block : Bool) (step : Step) (new old : CallerState) : Type 0 where
   pub draft : Draft
   pub was : old.phase ≡ Prepared draft
   pub seat : Seat Filling

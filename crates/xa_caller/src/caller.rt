@@ -67,9 +67,9 @@ pub struct Caller {
 }
 
 impl Model for Caller {
-    ghost use Rattle.xa_caller.specs.Caller.{Standing};
+    ghost use Rattle.xa_caller.specs.Caller.{CallerState};
 
-    ghost Value = { Standing };
+    ghost Value = { CallerState };
 
     ghost use Rattle.xa_caller.specs.Kept.{standing_of, IsKept};
 

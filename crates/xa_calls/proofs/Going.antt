@@ -18,7 +18,7 @@ use Rattle.xa_desk.specs.xa_caller.declared.outcomes.Prepared.{Prepared}
 use Rattle.xa_desk.specs.xa_caller.declared.outcomes.Step.{Step}
 use Rattle.xa_desk.specs.xa_caller.declared.outcomes.Stop.{Stop}
 use Rattle.xa_desk.specs.xa_caller.declared.outcomes.Stop.TheVariants as stops
-use Rattle.xa_desk.specs.xa_caller.Caller.{Standing as Caller}
+use Rattle.xa_desk.specs.xa_caller.Caller.{CallerState}
 use Rattle.xa_desk.specs.xa_caller.Changes.{Prepares, Refuses, SetsPriority, StopsAs, StepsAs}
 use Rattle.xa_desk.specs.xa_caller.Unsent.{ChecksAs}
 use Rattle.xa_desk.proofs.xa_caller.Next.{first_found}
@@ -66,7 +66,7 @@ module _ (d : Domain) (number : ℕ) (op : Op) where
 
 -- a call that set the priority of the next request, or came to a halt
 pub set_same : (op : ℕ) (absolute : Bool) (amount : ℤ) (r : Result Stamp Halt) (old new : Desk) → IfOk r (λ stamp. SetsPriority op absolute amount stamp new.caller old.caller) → OnErr r (new ≡ old) → IsSame old new
-set_same op absolute amount (Ok stamp) old new sets kept = record { id = ap (λ (c : Caller). c.work.id) sets.made; clients = ap (λ (c : Caller). c.work.clients) sets.made }
+set_same op absolute amount (Ok stamp) old new sets kept = record { id = ap (λ (c : CallerState). c.work.id) sets.made; clients = ap (λ (c : CallerState). c.work.clients) sets.made }
 set_same op absolute amount (Err halt) old new sets kept = record { id = ap (λ (desk : Desk). desk.caller.work.id) kept; clients = ap (λ (desk : Desk). desk.caller.work.clients) kept }
 
 module _ (d : Domain) (ask : Ask) (op : ℕ) where
@@ -140,32 +140,32 @@ module _ (d : Domain) (ask : Ask) (op : ℕ) where
   -- the caller saw a stamp
   pub sees_on : (old new : Desk) → Leads d old new → Sees old.caller new.caller → GoesBy d op ask old new
   sees_on old new leads sees =
-      let id = ap (λ (c : Caller). c.work.id) sees.1 in
-      let clients = ap (λ (c : Caller). c.work.clients) sees.1 in
+      let id = ap (λ (c : CallerState). c.work.id) sees.1 in
+      let clients = ap (λ (c : CallerState). c.work.clients) sees.1 in
       record {
         leads = leads;
         fits = no_more_fits d old new leads (record {
-          setup = ap (λ (c : Caller). c.work.setup) sees.1;
+          setup = ap (λ (c : CallerState). c.work.setup) sees.1;
           clients = clients;
           id = id;
-          own = ap (λ (c : Caller). c.work.own) sees.1 ∙ sym (append-nil old.caller.work.own);
-          stamp = let higher = ap (λ (c : Caller). c.work.stamp.0) sees.1 in omega (arith, higher);
+          own = ap (λ (c : CallerState). c.work.own) sees.1 ∙ sym (append-nil old.caller.work.own);
+          stamp = let higher = ap (λ (c : CallerState). c.work.stamp.0) sees.1 in omega (arith, higher);
           made = none_made;
         }) op ask;
         same = record { id = id; clients = clients };
-        fills = seat_fills old new (ap (λ (c : Caller). c.seat) sees.1);
+        fills = seat_fills old new (ap (λ (c : CallerState). c.seat) sees.1);
       }
 
   pub prepared_on : (found : FoundRows) (prepared : Prepared) (old new : Desk) → Leads d old new → FitsOn d op ask old new → Prepares d.setup d.cells op ask.payload found prepared new.caller old.caller → GoesBy d op ask old new
-  prepared_on found prepared old new leads fits made = record { leads = leads; fits = fits; same = record { id = ap (λ (c : Caller). c.work.id) made.made; clients = ap (λ (c : Caller). c.work.clients) made.made }; fills = prepared_fills d.setup op ask.payload found prepared old new made }
+  prepared_on found prepared old new leads fits made = record { leads = leads; fits = fits; same = record { id = ap (λ (c : CallerState). c.work.id) made.made; clients = ap (λ (c : CallerState). c.work.clients) made.made }; fills = prepared_fills d.setup op ask.payload found prepared old new made }
 
-  refused_same : (fault : Fault) (evidence : Evidence) (stamp : Stamp) (old new : Caller) → Refuses op fault evidence stamp new old → (new.work.id ≡ old.work.id) × (new.work.clients ≡ old.work.clients)
-  refused_same fault evidence stamp old new refuses = (ap (λ (c : Caller). c.work.id) refuses.made, ap (λ (c : Caller). c.work.clients) refuses.made)
+  refused_same : (fault : Fault) (evidence : Evidence) (stamp : Stamp) (old new : CallerState) → Refuses op fault evidence stamp new old → (new.work.id ≡ old.work.id) × (new.work.clients ≡ old.work.clients)
+  refused_same fault evidence stamp old new refuses = (ap (λ (c : CallerState). c.work.id) refuses.made, ap (λ (c : CallerState). c.work.clients) refuses.made)
 
-  pub stopped_same : (found : FoundRows) (stop : Stop) (old new : Caller) → StopsAs d.setup op ask.payload found stop new old → (new.work.id ≡ old.work.id) × (new.work.clients ≡ old.work.clients)
+  pub stopped_same : (found : FoundRows) (stop : Stop) (old new : CallerState) → StopsAs d.setup op ask.payload found stop new old → (new.work.id ≡ old.work.id) × (new.work.clients ≡ old.work.clients)
   stopped_same found (stops.Refused stamp) old new (inl none) = elim none.1 [ inl rows ↦ refused_same NoEnt (Version found.version) stamp old new rows.1 | inr rows ↦ refused_same IType (Version found.version) stamp old new rows.1 ]
   stopped_same found (stops.Refused stamp) old new (inr full) = refused_same Limit (Cells old.seat.count) stamp (record old { work = record old.work { room = max old.work.room 1 }; seat = full.1.seat }) new full.1.refuses
-  stopped_same found (stops.Halt halt) old new halts = (ap (λ (c : Caller). c.work.id) halts.1, ap (λ (c : Caller). c.work.clients) halts.1)
+  stopped_same found (stops.Halt halt) old new halts = (ap (λ (c : CallerState). c.work.id) halts.1, ap (λ (c : CallerState). c.work.clients) halts.1)
 
   pub stopped_on : (found : FoundRows) (stop : Stop) (old new : Desk) → Leads d old new → FitsOn d op ask old new → StopsAs d.setup op ask.payload found stop new.caller old.caller → GoesBy d op ask old new
   stopped_on found stop old new leads fits stopped = let same = stopped_same found stop old.caller new.caller stopped in record { leads = leads; fits = fits; same = record { id = same.0; clients = same.1 }; fills = stopped_fills d.setup op ask.payload found stop old new stopped }

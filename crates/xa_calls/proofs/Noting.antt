@@ -25,7 +25,7 @@ use Rattle.xa_desk.specs.xa_events.Server.{doing, is_busy, moves_server}
 use Rattle.xa_desk.specs.xa_stamp.declared.home.Stamped.{Stamped}
 use Rattle.xa_desk.specs.xa_worker.Crew.{stands_at}
 use Rattle.xa_desk.proofs.xa_worker.Calls.{call_of_worker}
-use Rattle.xa_desk.specs.xa_worker.Work.{Standing as Working, theirs, noted}
+use Rattle.xa_desk.specs.xa_worker.Work.{WorkState, theirs, noted}
 use Rattle.xa_desk.proofs.xa_worker.Noting.{theirs-more}
 use Rattle.xa_desk.specs.xa_worker.declared.work.Halt.{Halt}
 use Rattle.xa_desk.specs.xa_worker.declared.work.Halt.TheVariants.{NoMemory, Worn}
@@ -41,7 +41,7 @@ use Rattle.xa_desk.specs.xa_caller.declared.phase.Draft.{Draft}
 use Rattle.xa_desk.specs.xa_caller.declared.phase.Phase.{Phase}
 use Rattle.xa_desk.specs.xa_caller.declared.phase.Phase.TheVariants.{Idle, Prepared}
 use Rattle.xa_desk.specs.xa_caller.Phases.{least_by}
-use Rattle.xa_desk.specs.xa_caller.Caller.{Standing as Caller, MayCall, IsSound}
+use Rattle.xa_desk.specs.xa_caller.Caller.{CallerState, MayCall, IsSound}
 use Rattle.xa_desk.specs.xa_caller.Changes.{Notes, refused, Refuses, SetsPriority, StopsAs, Sends, StepsAs}
 use Rattle.xa_desk.specs.xa_caller.Unsent.{ChecksAs, UnsentAs, EndsAs, refused_for, other_step}
 use Rattle.xa_desk.specs.declared.desk.Desk.{Desk}
@@ -85,14 +85,14 @@ theirs_one n P old new same one =
     same_theirs new.caller.work (noted one.noted w) same.clients (ap (λ (i : CallerId). i.0) same.id) one.own
     ∙ theirs-more w one.noted (its_worker w.clients w.id.0 n one.noted.event one.its)
   where
-    same_theirs : (v w : Working) → v.clients ≡ w.clients → v.id.0 ≡ w.id.0 → v.own ≡ w.own → theirs v ≡ theirs w
+    same_theirs : (v w : WorkState) → v.clients ≡ w.clients → v.id.0 ≡ w.id.0 → v.own ≡ w.own → theirs v ≡ theirs w
     same_theirs v w clients id own = rw clients (rw id (rw own refl))
 
 theirs_still : (old new : Desk) → IsSame old new → IsQuiet old new → theirs new.caller.work ≡ theirs old.caller.work
 theirs_still old new same quiet = rw same.clients (rw (ap (λ (i : CallerId). i.0) same.id) (rw quiet refl))
 
 -- it may go on to call
-serving_same : (old new : Caller) → new.work.clients ≡ old.work.clients → new.work.id ≡ old.work.id
+serving_same : (old new : CallerState) → new.work.clients ≡ old.work.clients → new.work.id ≡ old.work.id
     → ((server : ℕ) → doing server (theirs new.work) ≡ doing server (theirs old.work)) → MayCall old → MayCall new
 serving_same old new clients id same (inl client) = inl (rw clients (rw id client))
 serving_same old new clients id same (inr serving) = inr (
@@ -178,13 +178,13 @@ told_call told n old new same tells (inr (mid, is, first, one)) =
 its_op : (by caller op : ℕ) → by ≡ caller → 0 < op → (((by == caller) && nat_lt 0 op) && (op == op)) ≡ true
 its_op by caller op same above = and_from ((by == caller) && nat_lt 0 op) (op == op) (and_from (by == caller) (nat_lt 0 op) (eq-eqb by caller same) (lt-ltb 0 op above)) (eq-eqb op op refl)
 
-notes_one : (n : ℕ) (P : Event → List Event → Type 0) (stamp : Stamp) (event : Event) (left : Caller) (old new : Desk) → Notes stamp event left new.caller → left.work.own ≡ old.caller.work.own → is_op old.caller.work.id.0 n event ≡ true → P event (theirs old.caller.work)
+notes_one : (n : ℕ) (P : Event → List Event → Type 0) (stamp : Stamp) (event : Event) (left : CallerState) (old new : Desk) → Notes stamp event left new.caller → left.work.own ≡ old.caller.work.own → is_op old.caller.work.id.0 n event ≡ true → P event (theirs old.caller.work)
     → NotesOne n P old new
 notes_one n P stamp event left old new notes own its shows =
     let x : Stamped = record { stamp = stamp; event = event } in
-    record { noted = x; own = ap (λ (c : Caller). c.work.own) notes.made ∙ ap (λ (xs : List Stamped). xs ++ x ∷ []) own; its = its; shows = shows }
+    record { noted = x; own = ap (λ (c : CallerState). c.work.own) notes.made ∙ ap (λ (xs : List Stamped). xs ++ x ∷ []) own; its = its; shows = shows }
 
-refuses_one : (op : ℕ) (fault : Fault) (evidence : Evidence) (stamp : Stamp) (left : Caller) (old new : Desk) → 0 < op → left.work.own ≡ old.caller.work.own → left.work.id ≡ old.caller.work.id → refusal_reply fault evidence ≡ replies.Fault fault
+refuses_one : (op : ℕ) (fault : Fault) (evidence : Evidence) (stamp : Stamp) (left : CallerState) (old new : Desk) → 0 < op → left.work.own ≡ old.caller.work.own → left.work.id ≡ old.caller.work.id → refusal_reply fault evidence ≡ replies.Fault fault
     → Refuses op fault evidence stamp new.caller left → NotesOne op Closes old new
 refuses_one op fault evidence stamp left old new above own id reply refuses =
     notes_one op Closes stamp (refused op fault evidence left) (record left { op = op; least = least_by (version_in evidence) left.least }) old new refuses own (its_op left.work.id.0 old.caller.work.id.0 op (ap (λ (i : CallerId). i.0) id) above) reply
@@ -201,25 +201,25 @@ stops_one setup op payload found stamp old new above (inr (some, limits)) =
 -- what stops a call leaves
 pub stops_notes : (setup : Setup) (op : ℕ) (payload : Data) (found : FoundRows) (stop : Stop) (old new : Desk) → 0 < op → old.caller.phase ≡ Idle → StopsAs setup op payload found stop new.caller old.caller → TriedNotes op (refused_by stop) old new
 stops_notes setup op payload found (stops.Refused stamp) old new above idle is = stops_one setup op payload found stamp old new above is
-stops_notes setup op payload found (stops.Halt halt) old new above idle is = (ap (λ (c : Caller). c.work.own) is.1, ap (λ (c : Caller). c.phase) is.1 ∙ idle)
+stops_notes setup op payload found (stops.Halt halt) old new above idle is = (ap (λ (c : CallerState). c.work.own) is.1, ap (λ (c : CallerState). c.phase) is.1 ∙ idle)
 
 -- so it is with a request that no queue took
 unsent_at : (op : ℕ) (why : Why) (no_block : Bool) (step : Step) (draft : Draft) (seat : Seat Filling) (old new : Desk) → 0 < op → draft.op ≡ op
     → EndsAs draft.op (refused_for draft why no_block) (other_step why) step new.caller (record old.caller { seat = seat; phase = Idle }) → TriedNotes op (tried_by step) old new
 unsent_at op reasons.AllShut no_block (steps.Told stamp) draft seat old new above turn ends =
     refuses_one op System (AllDown draft.version) stamp (record old.caller { seat = seat; phase = Idle }) old new above refl refl refl (subst (λ (n : ℕ). Refuses n System (AllDown draft.version) stamp new.caller (record old.caller { seat = seat; phase = Idle })) turn ends)
-unsent_at op reasons.AllShut no_block (steps.Halt halt) draft seat old new above turn ends = (ap (λ (c : Caller). c.work.own) ends.1, ap (λ (c : Caller). c.phase) ends.1)
+unsent_at op reasons.AllShut no_block (steps.Halt halt) draft seat old new above turn ends = (ap (λ (c : CallerState). c.work.own) ends.1, ap (λ (c : CallerState). c.phase) ends.1)
 unsent_at op reasons.AllShut no_block steps.Wait draft seat old new above turn ends = absurd ends
 unsent_at op reasons.AllShut no_block steps.Halted draft seat old new above turn ends = absurd ends
 unsent_at op (reasons.Full queue n) true (steps.Told stamp) draft seat old new above turn ends =
     refuses_one op Block (Queue queue n) stamp (record old.caller { seat = seat; phase = Idle }) old new above refl refl refl (subst (λ (n' : ℕ). Refuses n' Block (Queue queue n) stamp new.caller (record old.caller { seat = seat; phase = Idle })) turn ends)
-unsent_at op (reasons.Full queue n) true (steps.Halt halt) draft seat old new above turn ends = (ap (λ (c : Caller). c.work.own) ends.1, ap (λ (c : Caller). c.phase) ends.1)
+unsent_at op (reasons.Full queue n) true (steps.Halt halt) draft seat old new above turn ends = (ap (λ (c : CallerState). c.work.own) ends.1, ap (λ (c : CallerState). c.phase) ends.1)
 unsent_at op (reasons.Full queue n) true steps.Wait draft seat old new above turn ends = absurd ends
 unsent_at op (reasons.Full queue n) true steps.Halted draft seat old new above turn ends = absurd ends
 unsent_at op (reasons.Full queue n) false step draft seat old new above turn ends =
-    subst (λ (s : Step). TriedNotes op (tried_by s) old new) (sym ends.0) (ap (λ (c : Caller). c.work.own) ends.1)
+    subst (λ (s : Step). TriedNotes op (tried_by s) old new) (sym ends.0) (ap (λ (c : CallerState). c.work.own) ends.1)
 unsent_at op (reasons.Halt halt) no_block step draft seat old new above turn ends =
-    subst (λ (s : Step). TriedNotes op (tried_by s) old new) (sym ends.0) (ap (λ (c : Caller). c.work.own) ends.1, ap (λ (c : Caller). c.phase) ends.1)
+    subst (λ (s : Step). TriedNotes op (tried_by s) old new) (sym ends.0) (ap (λ (c : CallerState). c.work.own) ends.1, ap (λ (c : CallerState). c.phase) ends.1)
 
 pub unsent_notes : (op cell : ℕ) (why : Why) (no_block : Bool) (step : Step) (old new : Desk) (draft : Draft) → 0 < op → old.caller.phase ≡ Prepared draft → draft.op ≡ op → UnsentAs cell why no_block step new.caller old.caller → TriedNotes op (tried_by step) old new
 unsent_notes op cell why no_block step old new draft above prepared turn unsent =
@@ -233,7 +233,7 @@ unsent_notes op cell why no_block step old new draft above prepared turn unsent 
 pub sends_one : (op : ℕ) (stamp : Stamp) (draft : Draft) (event : Event) (old new : Desk) → 0 < op → old.caller.phase ≡ Prepared draft → draft.event.value ≡ event → op_in event ≡ op → IsItsOwn old.caller.work.id event → Sends stamp new.caller old.caller → NotesOne op Accepts old new
 sends_one op stamp draft event old new above prepared drafted at its sends = record {
   noted = record { stamp = stamp; event = sends.draft.event.value };
-  own = ap (λ (c : Caller). c.work.own) sends.made;
+  own = ap (λ (c : CallerState). c.work.own) sends.made;
   its = subst (λ (e : Event). is_op old.caller.work.id.0 op e ≡ true) (sym same) (by_own event its at);
   shows = subst (λ (e : Event). is_accept e ≡ true) (sym same) (accepts event its);
 }
@@ -259,9 +259,9 @@ sends_one op stamp draft event old new above prepared drafted at its sends = rec
 pub looks_notes : (expect : Option Kind) (step : Step) (old new : Desk) → 0 < old.caller.op → IsSound old.caller → StepsAs expect step new.caller old.caller → LookNotes old.caller.op (looked_by step) old new
 looks_notes expect (steps.Told stamp) old new above sound answers =
     notes_one old.caller.op Closes stamp (Answer (record { by = old.caller.work.id; op = old.caller.op; request = answers.sent.request; answer = answer_to expect answers.reply })) _ old new answers.noted refl (its_op old.caller.work.id.0 old.caller.work.id.0 old.caller.op refl above) sound.reads.called
-looks_notes expect steps.Wait old new above sound waits = ap (λ (c : Caller). c.work.own) waits.3
-looks_notes expect (steps.Halt halt) old new above sound loses = (ap (λ (c : Caller). c.work.own) loses.made, subst (λ (h : Halt). IsNoWant (ends.Here h)) (sym loses.last) tt)
-looks_notes expect steps.Halted old new above sound abandons = (ap (λ (c : Caller). c.work.own) abandons.made, tt)
+looks_notes expect steps.Wait old new above sound waits = ap (λ (c : CallerState). c.work.own) waits.3
+looks_notes expect (steps.Halt halt) old new above sound loses = (ap (λ (c : CallerState). c.work.own) loses.made, subst (λ (h : Halt). IsNoWant (ends.Here h)) (sym loses.last) tt)
+looks_notes expect steps.Halted old new above sound abandons = (ap (λ (c : CallerState). c.work.own) abandons.made, tt)
 
 -- it set a priority
 pub sets_one : (op : ℕ) (absolute : Bool) (amount : ℤ) (stamp : Stamp) (old new : Desk) → 0 < op → SetsPriority op absolute amount stamp new.caller old.caller → NotesOne op Closes old new
@@ -300,7 +300,7 @@ may_look op (Err stopped) old new same notes = may_still old new same notes.0
 
 pub checks_notes : (op : ℕ) (stop : Stop) (old new : Desk) → 0 < op → old.caller.phase ≡ Idle → ChecksAs op stop new.caller old.caller → TriedNotes op (refused_by stop) old new
 checks_notes op (stops.Refused stamp) old new above idle checks = checks_one op stamp old new above checks
-checks_notes op (stops.Halt halt) old new above idle checks = (ap (λ (c : Caller). c.work.own) checks.1, ap (λ (c : Caller). c.phase) checks.1 ∙ idle)
+checks_notes op (stops.Halt halt) old new above idle checks = (ap (λ (c : CallerState). c.work.own) checks.1, ap (λ (c : CallerState). c.phase) checks.1 ∙ idle)
 
 pub refused_call : (op : ℕ) (stop : Stop) (tried : Tried) (old new : Desk) → refused_by stop ≡ Ok tried → TriedNotes op (refused_by stop) old new → NotesCall op old new
 refused_call op (stops.Refused stamp) tried old new is notes = inl notes

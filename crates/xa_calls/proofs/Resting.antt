@@ -29,7 +29,7 @@ use Rattle.xa_desk.specs.xa_caller.declared.outcomes.Stop.{Stop}
 use Rattle.xa_desk.specs.xa_caller.declared.outcomes.Stop.TheVariants as stops
 use Rattle.xa_desk.specs.xa_caller.declared.outcomes.Why.{Why}
 use Rattle.xa_desk.specs.xa_caller.declared.outcomes.Why.TheVariants as reasons
-use Rattle.xa_desk.specs.xa_caller.Caller.{Standing as Caller}
+use Rattle.xa_desk.specs.xa_caller.Caller.{CallerState}
 use Rattle.xa_desk.specs.xa_caller.Changes.{Refuses, SetsPriority, StopsAs, StepsAs, refused}
 use Rattle.xa_desk.specs.xa_caller.Unsent.{ChecksAs, EndsAs, refused_for, other_step}
 use Rattle.xa_desk.specs.declared.domain.Domain.{Domain}
@@ -74,65 +74,65 @@ module _ (Shown : ℕ → Type 0) (Full : QueueId × ℕ → Type 0) where
 
   -- ---- by a step of the caller
 
-  refused_noted : (op : ℕ) (fault : Fault) (evidence : Evidence) (stamp : Stamp) (old new : Caller) → IfSome (version_in evidence) Shown → IfSome (full_shown evidence) Full → Refuses op fault evidence stamp new old → NotedOn Shown Full old.work.own new.work.own
+  refused_noted : (op : ℕ) (fault : Fault) (evidence : Evidence) (stamp : Stamp) (old new : CallerState) → IfSome (version_in evidence) Shown → IfSome (full_shown evidence) Full → Refuses op fault evidence stamp new old → NotedOn Shown Full old.work.own new.work.own
   refused_noted op fault evidence stamp old new shown full refuses =
-      noted_one old.work.own new.work.own (record { stamp = stamp; event = refused op fault evidence old }) (ap (λ (c : Caller). c.work.own) refuses.made) (shown, full)
+      noted_one old.work.own new.work.own (record { stamp = stamp; event = refused op fault evidence old }) (ap (λ (c : CallerState). c.work.own) refuses.made) (shown, full)
 
-  pub checked_noted : (op : ℕ) (stop : Stop) (old new : Caller) → ChecksAs op stop new old → NotedOn Shown Full old.work.own new.work.own
+  pub checked_noted : (op : ℕ) (stop : Stop) (old new : CallerState) → ChecksAs op stop new old → NotedOn Shown Full old.work.own new.work.own
   checked_noted op (stops.Refused stamp) old new refuses = refused_noted op Inval Argument stamp old new tt tt refuses
-  checked_noted op (stops.Halt halt) old new halts = noted_none old.work.own new.work.own (ap (λ (c : Caller). c.work.own) halts.1)
+  checked_noted op (stops.Halt halt) old new halts = noted_none old.work.own new.work.own (ap (λ (c : CallerState). c.work.own) halts.1)
 
   pub set_noted : (op : ℕ) (absolute : Bool) (amount : ℤ) (r : Result Stamp Halt) (old new : Desk) → IfOk r (λ stamp. SetsPriority op absolute amount stamp new.caller old.caller) → OnErr r (new ≡ old) → NotedOn Shown Full old.caller.work.own new.caller.work.own
   set_noted op absolute amount (Ok stamp) old new sets kept =
-      noted_one old.caller.work.own new.caller.work.own (record { stamp = stamp; event = Priority (record { by = old.caller.work.id; op = op; absolute = absolute; amount = amount }) }) (ap (λ (c : Caller). c.work.own) sets.made) (tt, tt)
+      noted_one old.caller.work.own new.caller.work.own (record { stamp = stamp; event = Priority (record { by = old.caller.work.id; op = op; absolute = absolute; amount = amount }) }) (ap (λ (c : CallerState). c.work.own) sets.made) (tt, tt)
   set_noted op absolute amount (Err halt) old new sets kept = noted_none old.caller.work.own new.caller.work.own (ap (λ (desk : Desk). desk.caller.work.own) kept)
 
-  pub replied_noted : (expect : Option Kind) (step : Step) (old new : Caller) → StepsAs expect step new old → NotedOn Shown Full old.work.own new.work.own
+  pub replied_noted : (expect : Option Kind) (step : Step) (old new : CallerState) → StepsAs expect step new old → NotedOn Shown Full old.work.own new.work.own
   replied_noted expect (steps.Told stamp) old new is =
-      noted_one old.work.own new.work.own (record { stamp = stamp; event = Answer (record { by = old.work.id; op = old.op; request = is.sent.request; answer = answer_to expect is.reply }) }) (ap (λ (c : Caller). c.work.own) is.noted.made) (tt, tt)
-  replied_noted expect steps.Wait old new is = noted_none old.work.own new.work.own (ap (λ (c : Caller). c.work.own) is.3)
-  replied_noted expect (steps.Halt halt) old new is = noted_none old.work.own new.work.own (ap (λ (c : Caller). c.work.own) is.made)
-  replied_noted expect steps.Halted old new is = noted_none old.work.own new.work.own (ap (λ (c : Caller). c.work.own) is.made)
+      noted_one old.work.own new.work.own (record { stamp = stamp; event = Answer (record { by = old.work.id; op = old.op; request = is.sent.request; answer = answer_to expect is.reply }) }) (ap (λ (c : CallerState). c.work.own) is.noted.made) (tt, tt)
+  replied_noted expect steps.Wait old new is = noted_none old.work.own new.work.own (ap (λ (c : CallerState). c.work.own) is.3)
+  replied_noted expect (steps.Halt halt) old new is = noted_none old.work.own new.work.own (ap (λ (c : CallerState). c.work.own) is.made)
+  replied_noted expect steps.Halted old new is = noted_none old.work.own new.work.own (ap (λ (c : CallerState). c.work.own) is.made)
 
 -- of a request that isn't made by what was found
-pub stopped_noted : (Full : QueueId × ℕ → Type 0) (setup : Setup) (op : ℕ) (payload : Data) (found : FoundRows) (stop : Stop) (old new : Caller) → StopsAs setup op payload found stop new old → NotedOn (λ version. version ≡ found.version) Full old.work.own new.work.own
+pub stopped_noted : (Full : QueueId × ℕ → Type 0) (setup : Setup) (op : ℕ) (payload : Data) (found : FoundRows) (stop : Stop) (old new : CallerState) → StopsAs setup op payload found stop new old → NotedOn (λ version. version ≡ found.version) Full old.work.own new.work.own
 stopped_noted Full setup op payload found (stops.Refused stamp) old new (inl none) = elim none.1 [
   | inl rows ↦ refused_noted (λ version. version ≡ found.version) Full op NoEnt (Version found.version) stamp old new refl tt rows.1
   | inr rows ↦ refused_noted (λ version. version ≡ found.version) Full op IType (Version found.version) stamp old new refl tt rows.1
 ]
 stopped_noted Full setup op payload found (stops.Refused stamp) old new (inr full) = refused_noted (λ version. version ≡ found.version) Full op Limit (Cells old.seat.count) stamp (record old { work = record old.work { room = max old.work.room 1 }; seat = full.1.seat }) new tt tt full.1.refuses
-stopped_noted Full setup op payload found (stops.Halt halt) old new halts = noted_none (λ version. version ≡ found.version) Full old.work.own new.work.own (ap (λ (c : Caller). c.work.own) halts.1)
+stopped_noted Full setup op payload found (stops.Halt halt) old new halts = noted_none (λ version. version ≡ found.version) Full old.work.own new.work.own (ap (λ (c : CallerState). c.work.own) halts.1)
 
 -- and of one that no queue took, for that reason
-pub unsent_noted : (draft : Draft) (why : Why) (no_block : Bool) (step : Step) (new left : Caller) → EndsAs draft.op (refused_for draft why no_block) (other_step why) step new left
+pub unsent_noted : (draft : Draft) (why : Why) (no_block : Bool) (step : Step) (new left : CallerState) → EndsAs draft.op (refused_for draft why no_block) (other_step why) step new left
     → NotedOn (λ version. version ≡ draft.version) (λ one. full_in why ≡ Some one) left.work.own new.work.own
 unsent_noted draft reasons.AllShut no_block (steps.Told stamp) new left ends = refused_noted (λ version. version ≡ draft.version) (λ one. full_in reasons.AllShut ≡ Some one) draft.op System (AllDown draft.version) stamp left new refl tt ends
-unsent_noted draft reasons.AllShut no_block (steps.Halt halt) new left ends = noted_none (λ version. version ≡ draft.version) (λ one. full_in reasons.AllShut ≡ Some one) left.work.own new.work.own (ap (λ (c : Caller). c.work.own) ends.1)
+unsent_noted draft reasons.AllShut no_block (steps.Halt halt) new left ends = noted_none (λ version. version ≡ draft.version) (λ one. full_in reasons.AllShut ≡ Some one) left.work.own new.work.own (ap (λ (c : CallerState). c.work.own) ends.1)
 unsent_noted draft reasons.AllShut no_block steps.Wait new left ends = absurd ends
 unsent_noted draft reasons.AllShut no_block steps.Halted new left ends = absurd ends
 unsent_noted draft (reasons.Full queue n) true (steps.Told stamp) new left ends = refused_noted (λ version. version ≡ draft.version) (λ one. full_in (reasons.Full queue n) ≡ Some one) draft.op Block (Queue queue n) stamp left new tt refl ends
-unsent_noted draft (reasons.Full queue n) true (steps.Halt halt) new left ends = noted_none (λ version. version ≡ draft.version) (λ one. full_in (reasons.Full queue n) ≡ Some one) left.work.own new.work.own (ap (λ (c : Caller). c.work.own) ends.1)
+unsent_noted draft (reasons.Full queue n) true (steps.Halt halt) new left ends = noted_none (λ version. version ≡ draft.version) (λ one. full_in (reasons.Full queue n) ≡ Some one) left.work.own new.work.own (ap (λ (c : CallerState). c.work.own) ends.1)
 unsent_noted draft (reasons.Full queue n) true steps.Wait new left ends = absurd ends
 unsent_noted draft (reasons.Full queue n) true steps.Halted new left ends = absurd ends
-unsent_noted draft (reasons.Full queue n) false step new left ends = noted_none (λ version. version ≡ draft.version) (λ one. full_in (reasons.Full queue n) ≡ Some one) left.work.own new.work.own (ap (λ (c : Caller). c.work.own) ends.1)
-unsent_noted draft (reasons.Halt halt) no_block step new left ends = noted_none (λ version. version ≡ draft.version) (λ one. full_in (reasons.Halt halt) ≡ Some one) left.work.own new.work.own (ap (λ (c : Caller). c.work.own) ends.1)
+unsent_noted draft (reasons.Full queue n) false step new left ends = noted_none (λ version. version ≡ draft.version) (λ one. full_in (reasons.Full queue n) ≡ Some one) left.work.own new.work.own (ap (λ (c : CallerState). c.work.own) ends.1)
+unsent_noted draft (reasons.Halt halt) no_block step new left ends = noted_none (λ version. version ≡ draft.version) (λ one. full_in (reasons.Halt halt) ≡ Some one) left.work.own new.work.own (ap (λ (c : CallerState). c.work.own) ends.1)
 
 -- ---- the same worker
 
 pub checked_same : (op : ℕ) (stop : Stop) (old new : Desk) → ChecksAs op stop new.caller old.caller → IsSame old new
-checked_same op (stops.Refused stamp) old new refuses = record { id = ap (λ (c : Caller). c.work.id) refuses.made; clients = ap (λ (c : Caller). c.work.clients) refuses.made }
-checked_same op (stops.Halt halt) old new halts = record { id = ap (λ (c : Caller). c.work.id) halts.1; clients = ap (λ (c : Caller). c.work.clients) halts.1 }
+checked_same op (stops.Refused stamp) old new refuses = record { id = ap (λ (c : CallerState). c.work.id) refuses.made; clients = ap (λ (c : CallerState). c.work.clients) refuses.made }
+checked_same op (stops.Halt halt) old new halts = record { id = ap (λ (c : CallerState). c.work.id) halts.1; clients = ap (λ (c : CallerState). c.work.clients) halts.1 }
 
 pub replied_same : (expect : Option Kind) (step : Step) (old new : Desk) → StepsAs expect step new.caller old.caller → IsSame old new
-replied_same expect (steps.Told stamp) old new is = record { id = ap (λ (c : Caller). c.work.id) is.noted.made; clients = ap (λ (c : Caller). c.work.clients) is.noted.made }
-replied_same expect steps.Wait old new is = record { id = ap (λ (c : Caller). c.work.id) is.3; clients = ap (λ (c : Caller). c.work.clients) is.3 }
-replied_same expect (steps.Halt halt) old new is = record { id = ap (λ (c : Caller). c.work.id) is.made; clients = ap (λ (c : Caller). c.work.clients) is.made }
-replied_same expect steps.Halted old new is = record { id = ap (λ (c : Caller). c.work.id) is.made; clients = ap (λ (c : Caller). c.work.clients) is.made }
+replied_same expect (steps.Told stamp) old new is = record { id = ap (λ (c : CallerState). c.work.id) is.noted.made; clients = ap (λ (c : CallerState). c.work.clients) is.noted.made }
+replied_same expect steps.Wait old new is = record { id = ap (λ (c : CallerState). c.work.id) is.3; clients = ap (λ (c : CallerState). c.work.clients) is.3 }
+replied_same expect (steps.Halt halt) old new is = record { id = ap (λ (c : CallerState). c.work.id) is.made; clients = ap (λ (c : CallerState). c.work.clients) is.made }
+replied_same expect steps.Halted old new is = record { id = ap (λ (c : CallerState). c.work.id) is.made; clients = ap (λ (c : CallerState). c.work.clients) is.made }
 
 -- a look that told nothing found the cell pending
 pub pending : (expect : Option Kind) (step : Step) (old new : Desk) → StepsAs expect step new.caller old.caller → new ≡ record old { caller = new.caller } → told_by step ≡ Ok false → FoundPending old new
 pending expect (steps.Told stamp) old new is rest waits = absurd (cc waits)
-pending expect steps.Wait old new is rest waits = record { sent = is.0; phase = is.1; looked_at = is.2; rest = rest ∙ ap (λ (c : Caller). record old { caller = c }) is.3 }
+pending expect steps.Wait old new is rest waits = record { sent = is.0; phase = is.1; looked_at = is.2; rest = rest ∙ ap (λ (c : CallerState). record old { caller = c }) is.3 }
 pending expect (steps.Halt halt) old new is rest waits = absurd (cc waits)
 pending expect steps.Halted old new is rest waits = absurd (cc waits)
 

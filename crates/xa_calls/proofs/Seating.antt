@@ -27,7 +27,7 @@ use Rattle.xa_desk.specs.xa_caller.declared.outcomes.Stop.{Stop}
 use Rattle.xa_desk.specs.xa_caller.declared.outcomes.Stop.TheVariants as stops
 use Rattle.xa_desk.specs.xa_caller.declared.outcomes.Why.{Why}
 use Rattle.xa_desk.specs.xa_caller.declared.phase.Phase.TheVariants.{Idle}
-use Rattle.xa_desk.specs.xa_caller.Caller.{Standing as Caller}
+use Rattle.xa_desk.specs.xa_caller.Caller.{CallerState}
 use Rattle.xa_desk.specs.xa_caller.Changes.{Prepares, SetsPriority, StopsAs, StepsAs}
 use Rattle.xa_desk.specs.xa_caller.Unsent.{ChecksAs, UnsentAs, EndsAs, refused_for, other_step}
 use Rattle.xa_desk.specs.declared.desk.Desk.{Desk}
@@ -45,22 +45,22 @@ pub prepared_fills : (setup : Setup) (op : ℕ) (payload : Data) (found : FoundR
 prepared_fills setup op payload found prepared old new {cells} makes = keeps_fills old new (began_keeps cells _ old.caller.seat new.caller.seat makes.draft.asked.place prepared.entry.cargo.ticket makes.began)
 
 pub checks_fills : (op : ℕ) (stop : Stop) (old new : Desk) → ChecksAs op stop new.caller old.caller → FillsNone old new
-checks_fills op (stops.Refused stamp) old new checks = seat_fills old new (ap (λ (c : Caller). c.seat) checks.made)
-checks_fills op (stops.Halt halt) old new checks = seat_fills old new (ap (λ (c : Caller). c.seat) checks.1)
+checks_fills op (stops.Refused stamp) old new checks = seat_fills old new (ap (λ (c : CallerState). c.seat) checks.made)
+checks_fills op (stops.Halt halt) old new checks = seat_fills old new (ap (λ (c : CallerState). c.seat) checks.1)
 
 pub stopped_fills : (setup : Setup) (op : ℕ) (payload : Data) (found : FoundRows) (stop : Stop) (old new : Desk) → StopsAs setup op payload found stop new.caller old.caller → FillsNone old new
-stopped_fills setup op payload found (stops.Refused stamp) old new (inl (none, inl (empty, refuses))) = seat_fills old new (ap (λ (c : Caller). c.seat) refuses.made)
-stopped_fills setup op payload found (stops.Refused stamp) old new (inl (none, inr (some, refuses))) = seat_fills old new (ap (λ (c : Caller). c.seat) refuses.made)
+stopped_fills setup op payload found (stops.Refused stamp) old new (inl (none, inl (empty, refuses))) = seat_fills old new (ap (λ (c : CallerState). c.seat) refuses.made)
+stopped_fills setup op payload found (stops.Refused stamp) old new (inl (none, inr (some, refuses))) = seat_fills old new (ap (λ (c : CallerState). c.seat) refuses.made)
 stopped_fills setup op payload found (stops.Refused stamp) old new (inr (some, limits)) =
-    keeps_fills old new (subst (λ (s : Seat Filling). Keeps (known old.caller.seat) (known s)) (sym (ap (λ (c : Caller). c.seat) limits.refuses.made)) (full_keeps old.caller.seat limits.seat limits.taken))
-stopped_fills setup op payload found (stops.Halt halt) old new halts = seat_fills old new (ap (λ (c : Caller). c.seat) halts.1)
+    keeps_fills old new (subst (λ (s : Seat Filling). Keeps (known old.caller.seat) (known s)) (sym (ap (λ (c : CallerState). c.seat) limits.refuses.made)) (full_keeps old.caller.seat limits.seat limits.taken))
+stopped_fills setup op payload found (stops.Halt halt) old new halts = seat_fills old new (ap (λ (c : CallerState). c.seat) halts.1)
 
-ends_seat : (op : ℕ) (refused : Option (Fault × Evidence)) (other step : Step) (new left : Caller) → EndsAs op refused other step new left → new.seat ≡ left.seat
-ends_seat op (Some (fault, evidence)) other (steps.Told stamp) new left ends = ap (λ (c : Caller). c.seat) ends.made
-ends_seat op (Some (fault, evidence)) other (steps.Halt halt) new left ends = ap (λ (c : Caller). c.seat) ends.1
+ends_seat : (op : ℕ) (refused : Option (Fault × Evidence)) (other step : Step) (new left : CallerState) → EndsAs op refused other step new left → new.seat ≡ left.seat
+ends_seat op (Some (fault, evidence)) other (steps.Told stamp) new left ends = ap (λ (c : CallerState). c.seat) ends.made
+ends_seat op (Some (fault, evidence)) other (steps.Halt halt) new left ends = ap (λ (c : CallerState). c.seat) ends.1
 ends_seat op (Some (fault, evidence)) other steps.Wait new left ends = absurd ends
 ends_seat op (Some (fault, evidence)) other steps.Halted new left ends = absurd ends
-ends_seat op None other step new left ends = ap (λ (c : Caller). c.seat) ends.1
+ends_seat op None other step new left ends = ap (λ (c : CallerState). c.seat) ends.1
 
 pub unsent_fills : (cell : ℕ) (why : Why) (no_block : Bool) (step : Step) (old new : Desk) → UnsentAs cell why no_block step new.caller old.caller → FillsNone old new
 unsent_fills cell why no_block step old new unsent =
@@ -82,5 +82,5 @@ looks_fills expect (steps.Halt halt) old new loses = took_fills loses.sent.place
 looks_fills expect steps.Halted old new abandons = took_fills abandons.sent.place.cell abandons.filling old new abandons.took
 
 pub set_fills : (op : ℕ) (absolute : Bool) (amount : ℤ) (r : Result Stamp Halt) (old new : Desk) → IfOk r (λ stamp. SetsPriority op absolute amount stamp new.caller old.caller) → OnErr r (new ≡ old) → FillsNone old new
-set_fills op absolute amount (Ok stamp) old new sets kept = seat_fills old new (ap (λ (c : Caller). c.seat) sets.made)
+set_fills op absolute amount (Ok stamp) old new sets kept = seat_fills old new (ap (λ (c : CallerState). c.seat) sets.made)
 set_fills op absolute amount (Err halt) old new sets kept = seat_fills old new (ap (λ (desk : Desk). desk.caller.seat) kept)

@@ -32,7 +32,7 @@ use Rattle.xa_desk.specs.xa_caller.declared.outcomes.Why.{Why}
 use Rattle.xa_desk.specs.xa_caller.declared.phase.Draft.{Draft}
 use Rattle.xa_desk.specs.xa_caller.declared.phase.Phase.{Phase}
 use Rattle.xa_desk.specs.xa_caller.declared.phase.Phase.TheVariants.{Idle, Prepared}
-use Rattle.xa_desk.specs.xa_caller.Caller.{Standing as Caller, MayCall}
+use Rattle.xa_desk.specs.xa_caller.Caller.{CallerState, MayCall}
 use Rattle.xa_desk.specs.xa_caller.Changes.{Sends}
 use Rattle.xa_desk.specs.xa_caller.Drafts.{Cargo}
 use Rattle.xa_desk.specs.xa_caller.Unsent.{AimsAs, EndsAs, UnsentAs, refused_for, other_step}
@@ -59,12 +59,12 @@ use Rattle.xa_calls.proofs.Noting.{may_still, quiet_one, quiet_tried, sends_one}
 
 -- ---- a request that no queue took
 
-ends_same : (op : ℕ) (refused : Option (Fault × Evidence)) (other step : Step) (new left : Caller) → EndsAs op refused other step new left → (new.work.id ≡ left.work.id) × (new.work.clients ≡ left.work.clients)
-ends_same op (Some (fault, evidence)) other (steps.Told stamp) new left ends = (ap (λ (c : Caller). c.work.id) ends.made, ap (λ (c : Caller). c.work.clients) ends.made)
-ends_same op (Some (fault, evidence)) other (steps.Halt halt) new left ends = (ap (λ (c : Caller). c.work.id) ends.1, ap (λ (c : Caller). c.work.clients) ends.1)
+ends_same : (op : ℕ) (refused : Option (Fault × Evidence)) (other step : Step) (new left : CallerState) → EndsAs op refused other step new left → (new.work.id ≡ left.work.id) × (new.work.clients ≡ left.work.clients)
+ends_same op (Some (fault, evidence)) other (steps.Told stamp) new left ends = (ap (λ (c : CallerState). c.work.id) ends.made, ap (λ (c : CallerState). c.work.clients) ends.made)
+ends_same op (Some (fault, evidence)) other (steps.Halt halt) new left ends = (ap (λ (c : CallerState). c.work.id) ends.1, ap (λ (c : CallerState). c.work.clients) ends.1)
 ends_same op (Some (fault, evidence)) other steps.Wait new left ends = absurd ends
 ends_same op (Some (fault, evidence)) other steps.Halted new left ends = absurd ends
-ends_same op None other step new left ends = (ap (λ (c : Caller). c.work.id) ends.1, ap (λ (c : Caller). c.work.clients) ends.1)
+ends_same op None other step new left ends = (ap (λ (c : CallerState). c.work.id) ends.1, ap (λ (c : CallerState). c.work.clients) ends.1)
 
 pub unsent_same : (cell : ℕ) (why : Why) (no_block : Bool) (step : Step) (old new : Desk) → UnsentAs cell why no_block step new.caller old.caller → IsSame old new
 unsent_same cell why no_block step old new unsent =
@@ -92,15 +92,15 @@ module _ (d : Domain) (ask : Ask) (first : Desk) where
   sends_on desk new stamp on leads fits sends = ends_on desk new on (record {
     leads = leads;
     fits = fits;
-    same = record { id = ap (λ (c : Caller). c.work.id) sends.made; clients = ap (λ (c : Caller). c.work.clients) sends.made };
-    fills = seat_fills desk new (ap (λ (c : Caller). c.seat) sends.made);
+    same = record { id = ap (λ (c : CallerState). c.work.id) sends.made; clients = ap (λ (c : CallerState). c.work.clients) sends.made };
+    fills = seat_fills desk new (ap (λ (c : CallerState). c.seat) sends.made);
   })
 
   pub back_on : (desk new : Desk) → IsOn d ask first desk → Leads d desk new → Sees desk.caller new.caller → new.reader ≡ desk.reader → new.board ≡ desk.board → IsOn d ask first new
   back_on desk new on leads sees reader board = record {
     goes = ends_on desk new on (sees_on d ask (desk.caller.op + 1) desk new leads sees);
-    op = ap (λ (c : Caller). c.op) sees.1 ∙ on.op;
-    quiet = ap (λ (c : Caller). c.work.own) sees.1 ∙ on.quiet;
+    op = ap (λ (c : CallerState). c.op) sees.1 ∙ on.op;
+    quiet = ap (λ (c : CallerState). c.work.own) sees.1 ∙ on.quiet;
     reader = reader ∙ on.reader;
     board = board ∙ on.board;
   }
@@ -120,7 +120,7 @@ module _ (d : Domain) (ask : Ask) (first : Desk) where
       let shown : ℕ → Type 0 = λ v. v ≡ desk.reader.found.version in
       tries_on Full Full desk new on (λ one is. is) (record {
         board = board;
-        found = noted_one shown Full desk.caller.work.own new.caller.work.own (record { stamp = stamp; event = draft.event.value }) (ap (λ (c : Caller). c.work.own) sends.made) (subst (RestsOn shown Full) (sym (said ∙ aimed.event_is)) (refl, tt));
+        found = noted_one shown Full desk.caller.work.own new.caller.work.own (record { stamp = stamp; event = draft.event.value }) (ap (λ (c : CallerState). c.work.own) sends.made) (subst (RestsOn shown Full) (sym (said ∙ aimed.event_is)) (refl, tt));
       })
 
   -- what it may do, and what was noted so far
@@ -159,9 +159,9 @@ aimed_its d found payload caller rows attempt entry one event at old new is aime
     requester default phase = default
 
 aimed_still : (entry : Entry Cargo) (rows : List Row) (attempt : ℕ) (aimed : Aimed) (old new : Desk) → AimsAs entry rows attempt aimed new.caller old.caller → IsStill old new
-aimed_still entry rows attempt (aims.At one event) old new is = let made = is.2.made in record { same = record { id = ap (λ (c : Caller). c.work.id) made; clients = ap (λ (c : Caller). c.work.clients) made }; op = ap (λ (c : Caller). c.op) made; own = ap (λ (c : Caller). c.work.own) made; seat = ap (λ (c : Caller). c.seat) made }
-aimed_still entry rows attempt (aims.Past back) old new is = let made = is.2 in record { same = record { id = ap (λ (c : Caller). c.work.id) made; clients = ap (λ (c : Caller). c.work.clients) made }; op = ap (λ (c : Caller). c.op) made; own = ap (λ (c : Caller). c.work.own) made; seat = ap (λ (c : Caller). c.seat) made }
-aimed_still entry rows attempt (aims.NoMemory back) old new is = let made = is.1 in record { same = record { id = ap (λ (c : Caller). c.work.id) made; clients = ap (λ (c : Caller). c.work.clients) made }; op = ap (λ (c : Caller). c.op) made; own = ap (λ (c : Caller). c.work.own) made; seat = ap (λ (c : Caller). c.seat) made }
+aimed_still entry rows attempt (aims.At one event) old new is = let made = is.2.made in record { same = record { id = ap (λ (c : CallerState). c.work.id) made; clients = ap (λ (c : CallerState). c.work.clients) made }; op = ap (λ (c : CallerState). c.op) made; own = ap (λ (c : CallerState). c.work.own) made; seat = ap (λ (c : CallerState). c.seat) made }
+aimed_still entry rows attempt (aims.Past back) old new is = let made = is.2 in record { same = record { id = ap (λ (c : CallerState). c.work.id) made; clients = ap (λ (c : CallerState). c.work.clients) made }; op = ap (λ (c : CallerState). c.op) made; own = ap (λ (c : CallerState). c.work.own) made; seat = ap (λ (c : CallerState). c.seat) made }
+aimed_still entry rows attempt (aims.NoMemory back) old new is = let made = is.1 in record { same = record { id = ap (λ (c : CallerState). c.work.id) made; clients = ap (λ (c : CallerState). c.work.clients) made }; op = ap (λ (c : CallerState). c.op) made; own = ap (λ (c : CallerState). c.work.own) made; seat = ap (λ (c : CallerState). c.seat) made }
 
 -- ---- what was seen of the queues
 
@@ -258,18 +258,18 @@ module _ (d : Domain) (ask : Ask) (old new : Desk) (leads : Leads d old new) whe
 
   module _ (sees : Sees old.caller new.caller) (reader : new.reader ≡ old.reader) where
     seen_still : IsStill old new
-    seen_still = record { same = record { id = ap (λ (c : Caller). c.work.id) sees.1; clients = ap (λ (c : Caller). c.work.clients) sees.1 }; op = ap (λ (c : Caller). c.op) sees.1; own = ap (λ (c : Caller). c.work.own) sees.1; seat = ap (λ (c : Caller). c.seat) sees.1 }
+    seen_still = record { same = record { id = ap (λ (c : CallerState). c.work.id) sees.1; clients = ap (λ (c : CallerState). c.work.clients) sees.1 }; op = ap (λ (c : CallerState). c.op) sees.1; own = ap (λ (c : CallerState). c.work.own) sees.1; seat = ap (λ (c : CallerState). c.seat) sees.1 }
 
     pub found_back : new.board ≡ old.board → HasFound d ask.service old.reader.found old → HasFound d ask.service new.reader.found new
     found_back board has =
-        let least = ap (λ (c : Caller). c.least) sees.1 in
+        let least = ap (λ (c : CallerState). c.least) sees.1 in
         let recent = has.recent in
         subst (λ (f : FoundRows). HasFound d ask.service f new) (sym (ap (λ r. r.found) reader)) (found_stays d old new leads ask.service old.reader.found board (omega (arith, least, recent)) has)
 
     pub aimed_back : (entry back : Entry Cargo) (event : Event) → back ≡ entry → IsAimed d old.reader.found ask.payload entry event old → IsAimed d new.reader.found ask.payload back event new
     aimed_back entry back event is aimed =
         subst (λ (f : FoundRows). IsAimed d f ask.payload back event new) (sym (ap (λ r. r.found) reader))
-        (subst (λ (e : Entry Cargo). IsAimed d old.reader.found ask.payload e event new) (sym is) (aimed_stays d old.reader.found ask.payload entry event old new (ap (λ (c : Caller). c.phase) sees.1) (ap (λ (c : Caller). c.op) sees.1) (ap (λ (c : Caller). c.priority) sees.1) aimed))
+        (subst (λ (e : Entry Cargo). IsAimed d old.reader.found ask.payload e event new) (sym is) (aimed_stays d old.reader.found ask.payload entry event old new (ap (λ (c : CallerState). c.phase) sees.1) (ap (λ (c : CallerState). c.op) sees.1) (ap (λ (c : CallerState). c.priority) sees.1) aimed))
 
     pub tried_back : (entry back : Entry Cargo) (event : Event) (attempt n : ℕ) (full full' : Option (QueueId × ℕ)) (queue : QueueId) (why : Refusal) → new.board ≡ old.board → back ≡ entry → queue.0 ≡ queue_in event → ShowsWhy d (queue_in event) why new
         → full_by queue why full ≡ Ok full' → n ≤ attempt + 1 → IsBy old.reader.found attempt event → IsTried d ask attempt full entry event old → IsTried d ask n full' back event new

@@ -8,12 +8,11 @@ ghost use Rattle.xa_calls.specs.Telling.{IsQuiet, IsNoWant, NotesOne, Closes, Lo
 
 use crate::sending::{refused_by, send};
 use crate::telling::{Told, told_at};
-use std::alloc::Global;
 use std::sync::Wait;
 use xa_desk::caller::Step;
 use xa_desk::link::{Gate, Point, stay};
 use xa_desk::types::{Ask, Op};
-use xa_desk::{Desk, Domain, Stopped};
+use xa_desk::{Desk, Domain, Monitor, Stopped};
 
 fn told_by(step: Step) -> Result<bool, Stopped>
     ensures { result ≡ told_by step }
@@ -43,114 +42,116 @@ fn is_told(domain: &Domain, desk: &mut Desk, ask: &Ask) -> Result<bool, Stopped>
 }
 
 // Waits for the answer.
-fn await_reply<W: Wait>(rt: &W, domain: &Domain, desk: &mut Desk, ask: &Ask) -> Result<(), Stopped>
-    requires domain { IsDomain domain.now }
-    requires waiting { IsWaiting domain.now desk.old.caller.op desk.old }
+fn await_reply<W: Wait, G>(
+    monitor: &Monitor<'_, W, G>,
+    desk: &mut Desk,
+    ask: &Ask,
+) -> Result<(), Stopped>
+    requires domain { IsDomain monitor.now.domain.now }
+    requires waiting { IsWaiting monitor.now.domain.now desk.old.caller.op desk.old }
     requires active { MayCall desk.old.caller }
     requires some { 0 < desk.old.caller.op }
-    ensures goes { PerformsBy domain.now desk.old.caller.op (Call ask.now) desk.old desk.new }
+    ensures goes { PerformsBy monitor.now.domain.now desk.old.caller.op (Call ask.now) desk.old desk.new }
     ensures active { MayCall desk.new.caller }
-    ensures told { OnOk result (IsReady domain.now desk.old.caller.op desk.new) }
+    ensures told { OnOk result (IsReady monitor.now.domain.now desk.old.caller.op desk.new) }
     ensures stopped { IfErr result (IsStopped desk.new) }
     ensures notes { OnOk result (NotesOne desk.old.caller.op Closes desk.old desk.new) }
     ensures quiet { IfErr result (λ stopped. IsQuiet desk.old desk.new × IsNoWant stopped) }
 {
     let caller = desk.caller.id();
-    for _ in rt.forever() {
-        let seen = domain.waits.replies.count(caller.0);
-        if is_told(domain, desk, ask)? {
+    for _ in monitor.rt.forever() {
+        let seen = monitor.domain.waits.replies.count(caller.0);
+        if is_told(monitor.domain, desk, ask)? {
             return Ok(());
         }
-        if domain.halt.get().is_some() {
+        if monitor.domain.halt.get().is_some() {
             return Err(Stopped::Elsewhere);
         }
-        domain.waits.replies.wait(rt, caller.0, seen);
+        monitor
+            .domain
+            .waits
+            .replies
+            .wait(monitor.rt, caller.0, seen);
     }
     unreachable!()
 }
 
 // A tpcall.
-fn call<W: Wait>(
-    rt: &W,
-    alloc: Global,
-    domain: &Domain,
+fn call<W: Wait, G>(
+    monitor: &Monitor<'_, W, G>,
     desk: &mut Desk,
     op: u32,
     ask: &Ask,
 ) -> Result<(), Stopped>
-    requires domain { IsDomain domain.now }
-    requires ready { IsReady domain.now desk.old.caller.op desk.old }
+    requires domain { IsDomain monitor.now.domain.now }
+    requires ready { IsReady monitor.now.domain.now desk.old.caller.op desk.old }
     requires active { MayCall desk.old.caller }
     requires turn { op ≡ desk.old.caller.op + 1 }
-    ensures goes { PerformsBy domain.now op (Call ask.now) desk.old desk.new }
+    ensures goes { PerformsBy monitor.now.domain.now op (Call ask.now) desk.old desk.new }
     ensures active { MayCall desk.new.caller }
-    ensures made { OnOk result (IsReady domain.now op desk.new) }
+    ensures made { OnOk result (IsReady monitor.now.domain.now op desk.new) }
     ensures stopped { IfErr result (IsStopped desk.new) }
     ensures notes { OnOk result (NotesCall op desk.old desk.new) }
     ensures within { IfErr result (λ stopped. StoppedIn op stopped desk.old desk.new) }
 {
-    let service = match desk.check(domain, op, ask) {
+    let service = match desk.check(monitor.domain, op, ask) {
         Ok(service) => service,
         Err(stop) => {
             refused_by(stop)?;
             return Ok(());
         }
     };
-    if send(rt, alloc, domain, desk, op, ask, &service)? {
-        return await_reply(rt, domain, desk, ask);
+    if send(monitor, desk, op, ask, &service)? {
+        return await_reply(monitor, desk, ask);
     }
     Ok(())
 }
 
 // It sets the priority of its next request.
-fn set_priority(
-    domain: &Domain,
+fn set_priority<W, G>(
+    monitor: &Monitor<'_, W, G>,
     desk: &mut Desk,
     op: u32,
     absolute: bool,
     amount: i32,
 ) -> Result<(), Stopped>
-    requires domain { IsDomain domain.now }
-    requires ready { IsReady domain.now desk.old.caller.op desk.old }
+    requires domain { IsDomain monitor.now.domain.now }
+    requires ready { IsReady monitor.now.domain.now desk.old.caller.op desk.old }
     requires active { MayCall desk.old.caller }
     requires turn { op ≡ desk.old.caller.op + 1 }
-    ensures goes { PerformsBy domain.now op (Priority absolute amount) desk.old desk.new }
+    ensures goes { PerformsBy monitor.now.domain.now op (Priority absolute amount) desk.old desk.new }
     ensures active { MayCall desk.new.caller }
-    ensures made { OnOk result (IsReady domain.now op desk.new) }
+    ensures made { OnOk result (IsReady monitor.now.domain.now op desk.new) }
     ensures stopped { IfErr result (IsStopped desk.new) }
     ensures notes { OnOk result (NotesCall op desk.old desk.new) }
     ensures within { IfErr result (λ stopped. StoppedIn op stopped desk.old desk.new) }
 {
-    match desk.set_priority(domain, op, absolute, amount) {
-        Ok(_) => Ok(()),
-        Err(halt) => Err(Stopped::Here(halt)),
-    }
+    desk.set_priority(monitor.domain, op, absolute, amount)?;
+    Ok(())
 }
 
 // Makes its next call.
-fn make<W: Wait>(
-    rt: &W,
-    alloc: Global,
-    domain: &Domain,
+fn make<W: Wait, G>(
+    monitor: &Monitor<'_, W, G>,
     desk: &mut Desk,
     number: u32,
     op: &Op,
 ) -> Result<(), Stopped>
-    requires domain { IsDomain domain.now }
-    requires ready { IsReady domain.now desk.old.caller.op desk.old }
+    requires domain { IsDomain monitor.now.domain.now }
+    requires ready { IsReady monitor.now.domain.now desk.old.caller.op desk.old }
     requires active { MayCall desk.old.caller }
     requires turn { number ≡ desk.old.caller.op + 1 }
     requires kind { IsCall op.now }
-    ensures goes { PerformsBy domain.now number op.now desk.old desk.new }
+    ensures goes { PerformsBy monitor.now.domain.now number op.now desk.old desk.new }
     ensures active { MayCall desk.new.caller }
-    ensures made { OnOk result (IsReady domain.now number desk.new) }
+    ensures made { OnOk result (IsReady monitor.now.domain.now number desk.new) }
     ensures stopped { IfErr result (IsStopped desk.new) }
     ensures notes { OnOk result (NotesCall number desk.old desk.new) }
     ensures within { IfErr result (λ stopped. StoppedIn number stopped desk.old desk.new) }
 {
     match op {
-        Op::Call(ask) => call(rt, alloc, domain, desk, number, ask),
-        Op::Priority(absolute, amount) => set_priority(domain, desk, number, *absolute, *amount),
+        Op::Call(ask) => call(monitor, desk, number, ask),
+        Op::Priority(absolute, amount) => set_priority(monitor, desk, number, *absolute, *amount),
         _ => unreachable!(),
     }
 }
@@ -158,32 +159,29 @@ fn make<W: Wait>(
 /// Makes its next call, which has that number: it is answered, done or refused, or the run halts. Where memory runs out
 /// nothing was noted, and the call may be made again.
 pub fn perform<W: Wait, G: Gate>(
-    rt: &W,
-    alloc: Global,
-    domain: &Domain,
+    monitor: &Monitor<'_, W, G>,
     desk: &mut Desk,
     number: u32,
     op: &Op,
-    gate: &G,
 ) -> Result<Told, Stopped>
-    requires domain { IsDomain domain.now }
-    requires ready { IsReady domain.now desk.old.caller.op desk.old }
+    requires domain { IsDomain monitor.now.domain.now }
+    requires ready { IsReady monitor.now.domain.now desk.old.caller.op desk.old }
     requires active { MayCall desk.old.caller }
     requires turn { number ≡ desk.old.caller.op + 1 }
     requires kind { IsCall op.now }
-    ensures goes { PerformsBy domain.now number op.now desk.old desk.new }
+    ensures goes { PerformsBy monitor.now.domain.now number op.now desk.old desk.new }
     ensures active { MayCall desk.new.caller }
-    ensures made { OnOk result (IsReady domain.now number desk.new) }
+    ensures made { OnOk result (IsReady monitor.now.domain.now number desk.new) }
     ensures stopped { IfErr result (IsStopped desk.new) }
     ensures told { IfOk result (λ told. IsTold told number desk.old desk.new) }
     ensures within { IfErr result (λ stopped. StoppedIn number stopped desk.old desk.new) }
 {
-    if domain.halt.get().is_some() {
+    if monitor.domain.halt.get().is_some() {
         return Err(Stopped::Elsewhere);
     }
     let caller = desk.caller.id();
-    stay(gate, Point::BeforeOp(caller, number));
-    make(rt, alloc, domain, desk, number, op)?;
-    gate.passed(Point::AfterOp(caller, number));
+    stay(monitor.gate, Point::BeforeOp(caller, number));
+    make(monitor, desk, number, op)?;
+    monitor.gate.passed(Point::AfterOp(caller, number));
     Ok(told_at(desk))
 }

@@ -12,13 +12,12 @@ ghost use Rattle.xa_calls.specs.Going.{IsReady, GoesBy, PerformsBy, TriesBy, Tri
 ghost use Rattle.xa_calls.specs.Sending.{IsBy, IsItsOwn, why_of, full_by};
 ghost use Rattle.xa_calls.specs.Telling.{TriedNotes, SentNotes};
 
-use std::alloc::Global;
 use std::sync::Wait;
 use xa_desk::caller::{Aimed, Cargo, Note, Prepared, Step, Stop, Why};
 use xa_desk::queue::{Entry, Refusal};
 use xa_desk::types::{Ask, Name, QueueId};
 use xa_desk::work::Halt;
-use xa_desk::{Desk, Domain, Stopped, Unsent};
+use xa_desk::{Desk, Monitor, Stopped, Unsent};
 
 // What an attempt to send comes to.
 #[derive(Clone, Copy)]
@@ -75,60 +74,58 @@ fn full_by(
 }
 
 // No queue took the request, for that reason.
-fn give_up(
-    domain: &Domain,
+fn give_up<W, G>(
+    monitor: &Monitor<'_, W, G>,
     desk: &mut Desk,
     note: Note,
     entry: Entry<Cargo>,
     why: Why,
     ask: &Ask,
 ) -> Result<Tried, Stopped>
-    requires domain { IsDomain domain.now }
-    requires desk { IsDesk domain.now desk.old }
+    requires domain { IsDomain monitor.now.domain.now }
+    requires desk { IsDesk monitor.now.domain.now desk.old }
     requires active { MayCall desk.old.caller }
-    requires valid { is_invalid_call domain.now.setup ask.now ≡ false }
-    requires found { HasFound domain.now ask.now.service desk.old.reader.found desk.old }
-    requires aimed { (event : Accepting) × IsAimed domain.now desk.old.reader.found ask.now.payload entry event desk.old }
-    requires why { IsWhy domain.now desk.old.reader.found why desk.old }
-    ensures goes { GoesBy domain.now (desk.old.caller.op + 1) ask.now desk.old desk.new }
+    requires valid { is_invalid_call monitor.now.domain.now.setup ask.now ≡ false }
+    requires found { HasFound monitor.now.domain.now ask.now.service desk.old.reader.found desk.old }
+    requires aimed { (event : Accepting) × IsAimed monitor.now.domain.now desk.old.reader.found ask.now.payload entry event desk.old }
+    requires why { IsWhy monitor.now.domain.now desk.old.reader.found why desk.old }
+    ensures goes { GoesBy monitor.now.domain.now (desk.old.caller.op + 1) ask.now desk.old desk.new }
     ensures tries { TriesBy (λ one. full_in why ≡ Some one) desk.old desk.new }
-    ensures tried { TriedAs domain.now (desk.old.caller.op + 1) result desk.new }
+    ensures tried { TriedAs monitor.now.domain.now (desk.old.caller.op + 1) result desk.new }
     ensures notes { TriedNotes (desk.old.caller.op + 1) result desk.old desk.new }
     ensures active { MayCall desk.new.caller }
 {
-    tried_by(desk.unsent(domain, note, entry, why, ask.flags.no_block))
+    tried_by(desk.unsent(monitor.domain, note, entry, why, ask.flags.no_block))
 }
 
 // Puts the request on the first queue that takes it.
-fn put_on_one<W: Wait>(
-    rt: &W,
-    alloc: Global,
-    domain: &Domain,
+fn put_on_one<W: Wait, G>(
+    monitor: &Monitor<'_, W, G>,
     desk: &mut Desk,
     first: Prepared,
     ask: &Ask,
 ) -> Result<Tried, Stopped>
-    requires domain { IsDomain domain.now }
-    requires desk { IsDesk domain.now desk.old }
+    requires domain { IsDomain monitor.now.domain.now }
+    requires desk { IsDesk monitor.now.domain.now desk.old }
     requires active { MayCall desk.old.caller }
-    requires valid { is_invalid_call domain.now.setup ask.now ≡ false }
-    requires found { HasFound domain.now ask.now.service desk.old.reader.found desk.old }
-    requires aimed { IsAimed domain.now desk.old.reader.found ask.now.payload first.entry first.event desk.old }
+    requires valid { is_invalid_call monitor.now.domain.now.setup ask.now ≡ false }
+    requires found { HasFound monitor.now.domain.now ask.now.service desk.old.reader.found desk.old }
+    requires aimed { IsAimed monitor.now.domain.now desk.old.reader.found ask.now.payload first.entry first.event desk.old }
     requires first { IsBy desk.old.reader.found 0 first.event }
     requires its { IsItsOwn desk.old.caller.work.id first.event }
-    ensures goes { GoesBy domain.now (desk.old.caller.op + 1) ask.now desk.old desk.new }
-    ensures tries { TriesBy (SawFull domain.now desk.old desk.new) desk.old desk.new }
-    ensures tried { TriedAs domain.now (desk.old.caller.op + 1) result desk.new }
+    ensures goes { GoesBy monitor.now.domain.now (desk.old.caller.op + 1) ask.now desk.old desk.new }
+    ensures tries { TriesBy (SawFull monitor.now.domain.now desk.old desk.new) desk.old desk.new }
+    ensures tried { TriedAs monitor.now.domain.now (desk.old.caller.op + 1) result desk.new }
     ensures notes { TriedNotes (desk.old.caller.op + 1) result desk.old desk.new }
     ensures active { MayCall desk.new.caller }
 {
     let mut prepared = first;
     let mut full = None;
     let mut attempt = 0u32;
-    for _ in rt.forever() {
-        let unsent = match desk.send(rt, domain, prepared) {
+    for _ in monitor.rt.forever() {
+        let unsent = match desk.send(monitor.rt, monitor.domain, prepared) {
             Ok(queue) => {
-                domain.wake_server(queue);
+                monitor.domain.wake_server(queue);
                 return Ok(Tried::Sent);
             }
             Err(unsent) => unsent,
@@ -141,16 +138,16 @@ fn put_on_one<W: Wait>(
         } = unsent;
         full = match full_by(queue, why, full) {
             Ok(full) => full,
-            Err(halt) => return give_up(domain, desk, note, entry, Why::Halt(halt), ask),
+            Err(halt) => return give_up(monitor, desk, note, entry, Why::Halt(halt), ask),
         };
         attempt = attempt.saturating_add(1);
-        prepared = match desk.aim(alloc, domain, entry, attempt) {
+        prepared = match desk.aim(monitor.alloc, monitor.domain, entry, attempt) {
             Aimed::At(entry, event) => Prepared { entry, event, note },
             Aimed::Past(entry) => {
-                return give_up(domain, desk, note, entry, why_of(full), ask);
+                return give_up(monitor, desk, note, entry, why_of(full), ask);
             }
             Aimed::NoMemory(entry) => {
-                return give_up(domain, desk, note, entry, Why::Halt(Halt::NoMemory), ask);
+                return give_up(monitor, desk, note, entry, Why::Halt(Halt::NoMemory), ask);
             }
         };
     }
@@ -158,71 +155,67 @@ fn put_on_one<W: Wait>(
 }
 
 // Looks the service up, and sends the request by what is found, or is refused.
-fn try_to_send<W: Wait>(
-    rt: &W,
-    alloc: Global,
-    domain: &Domain,
+fn try_to_send<W: Wait, G>(
+    monitor: &Monitor<'_, W, G>,
     desk: &mut Desk,
     op: u32,
     ask: &Ask,
     service: &Name,
 ) -> Result<Tried, Stopped>
-    requires domain { IsDomain domain.now }
-    requires ready { IsReady domain.now desk.old.caller.op desk.old }
+    requires domain { IsDomain monitor.now.domain.now }
+    requires ready { IsReady monitor.now.domain.now desk.old.caller.op desk.old }
     requires active { MayCall desk.old.caller }
     requires turn { op ≡ desk.old.caller.op + 1 }
-    requires valid { is_invalid_call domain.now.setup ask.now ≡ false }
+    requires valid { is_invalid_call monitor.now.domain.now.setup ask.now ≡ false }
     requires named { service.now ≡ ask.now.service }
-    ensures goes { PerformsBy domain.now op (Call ask.now) desk.old desk.new }
-    ensures tried { TriedAs domain.now op result desk.new }
+    ensures goes { PerformsBy monitor.now.domain.now op (Call ask.now) desk.old desk.new }
+    ensures tried { TriedAs monitor.now.domain.now op result desk.new }
     ensures notes { TriedNotes op result desk.old desk.new }
     ensures active { MayCall desk.new.caller }
 {
-    desk.look_up(rt, domain, service);
-    match desk.prepare(alloc, domain, op, ask) {
-        Ok(prepared) => put_on_one(rt, alloc, domain, desk, prepared, ask),
+    desk.look_up(monitor.rt, monitor.domain, service);
+    match desk.prepare(monitor.alloc, monitor.domain, op, ask) {
+        Ok(prepared) => put_on_one(monitor, desk, prepared, ask),
         Err(stop) => refused_by(stop),
     }
 }
 
 // Sends the request; where all queues that are up are full it waits until one has room, and looks the service up again.
 // Answers whether it was sent, or else refused.
-pub(crate) fn send<W: Wait>(
-    rt: &W,
-    alloc: Global,
-    domain: &Domain,
+pub(crate) fn send<W: Wait, G>(
+    monitor: &Monitor<'_, W, G>,
     desk: &mut Desk,
     op: u32,
     ask: &Ask,
     service: &Name,
 ) -> Result<bool, Stopped>
-    requires domain { IsDomain domain.now }
-    requires ready { IsReady domain.now desk.old.caller.op desk.old }
+    requires domain { IsDomain monitor.now.domain.now }
+    requires ready { IsReady monitor.now.domain.now desk.old.caller.op desk.old }
     requires active { MayCall desk.old.caller }
     requires turn { op ≡ desk.old.caller.op + 1 }
-    requires valid { is_invalid_call domain.now.setup ask.now ≡ false }
+    requires valid { is_invalid_call monitor.now.domain.now.setup ask.now ≡ false }
     requires named { service.now ≡ ask.now.service }
-    ensures goes { PerformsBy domain.now op (Call ask.now) desk.old desk.new }
-    ensures sent { SentAs domain.now op result desk.new }
+    ensures goes { PerformsBy monitor.now.domain.now op (Call ask.now) desk.old desk.new }
+    ensures sent { SentAs monitor.now.domain.now op result desk.new }
     ensures notes { SentNotes op result desk.old desk.new }
     ensures active { MayCall desk.new.caller }
 {
-    match try_to_send(rt, alloc, domain, desk, op, ask, service)? {
+    match try_to_send(monitor, desk, op, ask, service)? {
         Tried::Sent => return Ok(true),
         Tried::Refused => return Ok(false),
         Tried::Full => {}
     }
-    for _ in rt.forever() {
-        let key = domain.waits.room.prepare_wait();
-        match try_to_send(rt, alloc, domain, desk, op, ask, service)? {
+    for _ in monitor.rt.forever() {
+        let key = monitor.domain.waits.room.prepare_wait();
+        match try_to_send(monitor, desk, op, ask, service)? {
             Tried::Sent => return Ok(true),
             Tried::Refused => return Ok(false),
             Tried::Full => {}
         }
-        if domain.halt.get().is_some() {
+        if monitor.domain.halt.get().is_some() {
             return Err(Stopped::Elsewhere);
         }
-        key.wait(rt);
+        key.wait(monitor.rt);
     }
     unreachable!()
 }

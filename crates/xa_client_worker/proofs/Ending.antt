@@ -12,7 +12,7 @@ use Rattle.xa_desk.specs.xa_events.Caller.{is_call_of, newest_call, op_of, accep
 use Rattle.xa_desk.specs.xa_stamp.declared.home.Stamped.{Stamped}
 use Rattle.xa_desk.specs.xa_worker.declared.work.Halt.{Halt}
 use Rattle.xa_desk.specs.xa_worker.declared.work.Halt.TheVariants.{NoMemory, Worn}
-use Rattle.xa_desk.specs.xa_worker.Work.{Standing as Working, theirs, noted, HaltsAt}
+use Rattle.xa_desk.specs.xa_worker.Work.{WorkState, theirs, noted, HaltsAt}
 use Rattle.xa_desk.specs.xa_worker.Going.{FitEach}
 use Rattle.xa_desk.proofs.xa_worker.Noting.{theirs-more}
 use Rattle.xa_desk.specs.xa_caller.Caller.{IsSound}
@@ -52,18 +52,18 @@ ready_behind d op n a b before same ready = record { is = ready.is; client = rw 
 -- ---- it leaves
 
 -- that it leaves is of no call
-called_before : (w : Working) (stamp : Stamp) → newest_call w.id.0 (theirs (noted (record { stamp = stamp; event = Leave w.id }) w)) ≡ newest_call w.id.0 (theirs w)
+called_before : (w : WorkState) (stamp : Stamp) → newest_call w.id.0 (theirs (noted (record { stamp = stamp; event = Leave w.id }) w)) ≡ newest_call w.id.0 (theirs w)
 unfolding newest_call
 called_before w stamp = ap (find (is_call_of w.id.0)) (theirs-more w (record { stamp = stamp; event = Leave w.id }) refl)
 
 module _ (d : Domain) (desk : Desk) where
   pub leaves_same : (ended : Desk) (halt : Option Halt) → LeavesAs halt ended.caller.work desk.caller.work → IsSame desk ended
-  leaves_same ended None (inl left) = record { id = ap (λ (w : Working). w.id) left.1.2; clients = ap (λ (w : Working). w.clients) left.1.2 }
-  leaves_same ended None (inr left) = record { id = ap (λ (w : Working). w.id) left.1; clients = ap (λ (w : Working). w.clients) left.1 }
-  leaves_same ended (Some halt) left = record { id = ap (λ (w : Working). w.id) left.2; clients = ap (λ (w : Working). w.clients) left.2 }
+  leaves_same ended None (inl left) = record { id = ap (λ (w : WorkState). w.id) left.1.2; clients = ap (λ (w : WorkState). w.clients) left.1.2 }
+  leaves_same ended None (inr left) = record { id = ap (λ (w : WorkState). w.id) left.1; clients = ap (λ (w : WorkState). w.clients) left.1 }
+  leaves_same ended (Some halt) left = record { id = ap (λ (w : WorkState). w.id) left.2; clients = ap (λ (w : WorkState). w.clients) left.2 }
 
   -- where it came to no halt it has made its calls
-  pub leaves_made : (new : Working) (halt : Option Halt) → IsReady d desk.caller.op desk → IsSound desk.caller → here_by halt ≡ None → LeavesAs halt new desk.caller.work → HasMade desk.caller.op new
+  pub leaves_made : (new : WorkState) (halt : Option Halt) → IsReady d desk.caller.op desk → IsSound desk.caller → here_by halt ≡ None → LeavesAs halt new desk.caller.work → HasMade desk.caller.op new
   leaves_made new None ready sound none (inl left) =
       let w = desk.caller.work in
       let stamp = left.1.0 in
@@ -78,7 +78,7 @@ module _ (d : Domain) (desk : Desk) where
 
   halted_at : (ended : Desk) (halt : Halt) → ended.caller.work ≡ desk.caller.work → HaltsAt desk.caller.work.stamp halt → IsHaltAt ended halt
   halted_at ended NoMemory same halts = tt
-  halted_at ended (Worn stamp) same halts = (halts.1, ap (λ (w : Working). w.stamp.0) same ∙ halts.0)
+  halted_at ended (Worn stamp) same halts = (halts.1, ap (λ (w : WorkState). w.stamp.0) same ∙ halts.0)
 
   -- where its caller came to a halt as it left, that is why
   pub leaves_halted : (ended : Desk) (halt : Option Halt) → LeavesAs halt ended.caller.work desk.caller.work → IfSome (here_by halt) (IsStopAt ended)
@@ -87,11 +87,11 @@ module _ (d : Domain) (desk : Desk) where
 
   pub stopped_still : (ended : Desk) (stopped : Stopped) → ended.caller.work ≡ desk.caller.work → IsStopAt desk stopped → IsStopAt ended stopped
   stopped_still ended (Here NoMemory) same stop = tt
-  stopped_still ended (Here (Worn stamp)) same stop = (stop.0, ap (λ (w : Working). w.stamp.0) same ∙ stop.1)
+  stopped_still ended (Here (Worn stamp)) same stop = (stop.0, ap (λ (w : WorkState). w.stamp.0) same ∙ stop.1)
   stopped_still ended Elsewhere same stop = tt
 
   pub given_up_fits : (ended : Desk) → Leads d desk ended → ended.caller.work ≡ desk.caller.work → FitsStill d desk ended
-  given_up_fits ended leads work ops fits whole on = subst (λ (w : Working). FitEach d.setup d.clients (entries_of whole) w.id.0 ops w.own) (sym work) (fits whole (leads.before whole on))
+  given_up_fits ended leads work ops fits whole on = subst (λ (w : WorkState). FitEach d.setup d.clients (entries_of whole) w.id.0 ops w.own) (sym work) (fits whole (leads.before whole on))
 
   pub ready_itself : {U : Type 0} (made : Result U Stopped) (n : ℕ) → OnOk made (IsReady d n desk) → OnOk made (IsReady d desk.caller.op desk)
   ready_itself (Ok done) n ready = subst (λ (k : ℕ). IsReady d k desk) (sym ready.made) ready

@@ -6,7 +6,7 @@ use Rattle.xa_desk.specs.xa_types.declared.stamp.Stamp.{Stamp}
 use Rattle.xa_desk.specs.xa_events.declared.event.Event.TheVariants.{Leave}
 use Rattle.xa_desk.specs.xa_events.Caller.{last_op, just_accepted}
 use Rattle.xa_desk.specs.xa_worker.declared.work.Halt.{Halt}
-use Rattle.xa_desk.specs.xa_worker.Work.{Standing as Working, theirs}
+use Rattle.xa_desk.specs.xa_worker.Work.{WorkState, theirs}
 use Rattle.xa_desk.specs.declared.domain.Domain.{Domain}
 use Rattle.xa_desk.specs.declared.desk.Desk.{Desk}
 use Rattle.xa_desk.specs.declared.stopped.Stopped.{Stopped}
@@ -31,7 +31,7 @@ pub record GoesThrough (d : Domain) (ops : List Op) (old new : Desk) : Type 0 wh
   pub same : IsSame old new
 
 -- so many calls were made, the last of them is over, and the client has left, which came last
-pub record HasMade (made : ℕ) (w : Working) : Type 0 where
+pub record HasMade (made : ℕ) (w : WorkState) : Type 0 where
   pub last : last_op w.id.0 (theirs w) ≡ made
   pub over : just_accepted w.id.0 (theirs w) ≡ None
   pub left : Contains w.own (record { stamp = w.stamp; event = Leave w.id })

@@ -15,6 +15,6 @@ pub use xa_desk::{
 // What xa_desk itself has.
 pub mod desk {
     pub use xa_desk::{
-        Desk, Domain, Done, HaltWord, NotPassed, Signals, Stopped, Took, Unsent, Waits,
+        Desk, Domain, Done, HaltWord, Monitor, NotPassed, Signals, Stopped, Took, Unsent, Waits,
     };
 }

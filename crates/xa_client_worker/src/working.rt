@@ -6,14 +6,13 @@ ghost use Rattle.xa_calls.specs.Going.{IsStopped};
 ghost use Rattle.xa_client_worker.specs.Going.{IsReady, AllCalls};
 ghost use Rattle.xa_client_worker.specs.Ending.{FitsBy, GoesThrough, HasEnded, here_by, HasStopped, MayWork, HasWorked, MayEnd, EndsAs, IsBehind, IsStampOf};
 
-use std::alloc::Global;
 use std::mem;
 use std::sync::Wait;
 use xa_calls::perform;
 use xa_desk::link::Gate;
 use xa_desk::types::{Op, Stamp};
 use xa_desk::work::Halt;
-use xa_desk::{Desk, Domain, Done, Stopped};
+use xa_desk::{Desk, Domain, Done, Monitor, Stopped};
 
 /// What a client leaves behind, and why it ended before its work was done, if it did.
 pub struct Ended {
@@ -29,25 +28,22 @@ pub enum ClientWorker {
 }
 
 fn perform_all<W: Wait, G: Gate>(
-    rt: &W,
-    alloc: Global,
-    domain: &Domain,
+    monitor: &Monitor<'_, W, G>,
     desk: &mut Desk,
     ops: &[Op],
-    gate: &G,
 ) -> Result<(), Stopped>
-    requires domain { IsDomain domain.now }
-    requires ready { IsReady domain.now 0 desk.old }
+    requires domain { IsDomain monitor.now.domain.now }
+    requires ready { IsReady monitor.now.domain.now 0 desk.old }
     requires calls { AllCalls ops.now }
     requires few { length ops.now < 2 ^ 32 }
-    ensures goes { GoesThrough domain.now ops.now desk.old desk.new }
-    ensures made { OnOk result (IsReady domain.now (length ops.now) desk.new) }
+    ensures goes { GoesThrough monitor.now.domain.now ops.now desk.old desk.new }
+    ensures made { OnOk result (IsReady monitor.now.domain.now (length ops.now) desk.new) }
     ensures stopped { IfErr result (IsStopped desk.new) }
 {
     let mut number = 0u32;
     for op in ops {
         number += 1;
-        perform(rt, alloc, domain, desk, number, op, gate)?;
+        perform(monitor, desk, number, op)?;
     }
     Ok(())
 }
@@ -94,44 +90,34 @@ fn tell(domain: &Domain, stopped: Option<Stopped>) {
 
 /// Makes all calls of a client, which then leaves. Where it comes to a halt it tells the others.
 pub fn client_work<W: Wait, G: Gate>(
-    rt: &W,
-    alloc: Global,
-    domain: &Domain,
+    monitor: &Monitor<'_, W, G>,
     mut desk: Desk,
     ops: &[Op],
-    gate: &G,
 ) -> Ended
-    requires domain { IsDomain domain.now }
-    requires ready { IsReady domain.now 0 desk }
+    requires domain { IsDomain monitor.now.domain.now }
+    requires ready { IsReady monitor.now.domain.now 0 desk }
     requires calls { AllCalls ops.now }
     requires few { length ops.now < 2 ^ 32 }
-    ensures ended { HasEnded domain.now (FitsBy domain.now ops.now) (length ops.now) desk result }
+    ensures ended { HasEnded monitor.now.domain.now (FitsBy monitor.now.domain.now ops.now) (length ops.now) desk result }
 {
-    let made = perform_all(rt, alloc, domain, &mut desk, ops, gate);
-    let ended = leave(domain, desk, made);
-    tell(domain, ended.stopped);
+    let made = perform_all(monitor, &mut desk, ops);
+    let ended = leave(monitor.domain, desk, made);
+    tell(monitor.domain, ended.stopped);
     ended
 }
 
 impl ClientWorker {
     /// Makes all its calls, and leaves.
-    pub fn work<W: Wait, G: Gate>(
-        &mut self,
-        rt: &W,
-        alloc: Global,
-        domain: &Domain,
-        ops: &[Op],
-        gate: &G,
-    )
-        requires domain { IsDomain domain.now }
-        requires ready { MayWork domain.now self.old }
+    pub fn work<W: Wait, G: Gate>(&mut self, monitor: &Monitor<'_, W, G>, ops: &[Op])
+        requires domain { IsDomain monitor.now.domain.now }
+        requires ready { MayWork monitor.now.domain.now self.old }
         requires calls { AllCalls ops.now }
         requires few { length ops.now < 2 ^ 32 }
-        ensures worked { HasWorked domain.now ops.now (length ops.now) self.old self.new }
+        ensures worked { HasWorked monitor.now.domain.now ops.now (length ops.now) self.old self.new }
     {
         match mem::replace(self, ClientWorker::Working) {
             ClientWorker::Ready(desk) => {
-                let ended = client_work(rt, alloc, domain, desk, ops, gate);
+                let ended = client_work(monitor, desk, ops);
                 match mem::replace(self, ClientWorker::Left(ended)) {
                     ClientWorker::Working => {}
                     _ => unreachable!(),

@@ -25,7 +25,7 @@ use Rattle.xa_server.specs.xa_caller.declared.outcomes.Aimed.TheVariants as aims
 use Rattle.xa_server.specs.xa_caller.declared.phase.Draft.{Draft}
 use Rattle.xa_server.specs.xa_caller.declared.phase.Open.{Open}
 use Rattle.xa_server.specs.xa_caller.declared.phase.Phase.{Phase}
-use Rattle.xa_server.specs.xa_caller.Caller.{Standing as Caller, AreRowsOf}
+use Rattle.xa_server.specs.xa_caller.Caller.{CallerState, AreRowsOf}
 use Rattle.xa_server.specs.xa_caller.Drafts.{Cargo, accepted_by, entry_by}
 use Rattle.xa_server.specs.xa_caller.Phases.{IsOfVersion}
 use Rattle.xa_server.specs.xa_caller.Unsent.{AimsAs, AimsAt, entry_in}
@@ -52,16 +52,16 @@ aims_at d found ask entry aimed event event' row attempt old new there by has be
     let request : entry.request ≡ again.asked.request = ap (λ (e : Entry Cargo). e.request) before.entry_is ∙ sym (ap (λ (open_ : Open). open_.request) asked) in
     let data_is : entry.cargo.invocation.payload ≡ payload = ap (λ (e : Entry Cargo). e.cargo.invocation.payload) before.entry_is in
     let set = old.caller.priority in
-    let still : new.caller.priority ≡ set = ap (λ (c : Caller). c.priority) by.made in
+    let still : new.caller.priority ≡ set = ap (λ (c : CallerState). c.priority) by.made in
     let among : Contains found.rows row = at-all (Contains found.rows) found.rows attempt row there (All-contains_itself found.rows) in
     let IsIts : Row → Type 0 = λ r. r ≡ row_for d.setup ask.service r.queue.0 r.routine in
     let kind : (r : Row) → Contains found.rows r → is_accepted d.setup r.accepts (kind_of payload) ≡ is_accepted d.setup (row_for d.setup ask.service 0 []).accepts (kind_of payload) = λ r here. same_kinds d.setup ask.service (service_named d.setup ask.service) (kind_of payload) r (All-contains IsIts found.rows r has.rows here) in
     let ticket = ap (λ (e : Entry Cargo). e.cargo.ticket) by.entered in
     record {
       draft = again;
-      prepared = ap (λ (c : Caller). c.phase) by.made;
+      prepared = ap (λ (c : CallerState). c.phase) by.made;
       drafted = by.drafted;
-      turn = ap (λ (t : Draft). t.op) by.same ∙ ap (λ (t : Draft). t.op) first ∙ before.turn ∙ ap (λ (c : Caller). c.op + 1) (sym by.made);
+      turn = ap (λ (t : Draft). t.op) by.same ∙ ap (λ (t : Draft). t.op) first ∙ before.turn ∙ ap (λ (c : CallerState). c.op + 1) (sym by.made);
       version = version;
       sound = before.sound;
       row = row;
@@ -76,31 +76,31 @@ aims_at d found ask entry aimed event event' row attempt old new there by has be
     }
 
 -- nothing but the phase changed, or nothing
-same_but_phase : (entry : Entry Cargo) (found : FoundRows) (attempt : ℕ) (result : Aimed) (old new : Caller) → AimsAs entry found.rows attempt result new old → new ≡ record old { phase = new.phase }
-same_but_phase entry found attempt (aims.At aimed event) old new is = let made = is.2.made in made ∙ ap (λ (p : Phase). record old { phase = p }) (sym (ap (λ (c : Caller). c.phase) made))
-same_but_phase entry found attempt (aims.Past back) old new is = is.2 ∙ ap (λ (p : Phase). record old { phase = p }) (sym (ap (λ (c : Caller). c.phase) is.2))
-same_but_phase entry found attempt (aims.NoMemory back) old new is = is.1 ∙ ap (λ (p : Phase). record old { phase = p }) (sym (ap (λ (c : Caller). c.phase) is.1))
+same_but_phase : (entry : Entry Cargo) (found : FoundRows) (attempt : ℕ) (result : Aimed) (old new : CallerState) → AimsAs entry found.rows attempt result new old → new ≡ record old { phase = new.phase }
+same_but_phase entry found attempt (aims.At aimed event) old new is = let made = is.2.made in made ∙ ap (λ (p : Phase). record old { phase = p }) (sym (ap (λ (c : CallerState). c.phase) made))
+same_but_phase entry found attempt (aims.Past back) old new is = is.2 ∙ ap (λ (p : Phase). record old { phase = p }) (sym (ap (λ (c : CallerState). c.phase) is.2))
+same_but_phase entry found attempt (aims.NoMemory back) old new is = is.1 ∙ ap (λ (p : Phase). record old { phase = p }) (sym (ap (λ (c : CallerState). c.phase) is.1))
 
-module _ (d : Domain) (desk : Desk) (new : Caller) (found : FoundRows) (entry : Entry Cargo) (attempt : ℕ) (result : Aimed) (so : AimsAs entry found.rows attempt result new desk.caller) where
+module _ (d : Domain) (desk : Desk) (new : CallerState) (found : FoundRows) (entry : Entry Cargo) (attempt : ℕ) (result : Aimed) (so : AimsAs entry found.rows attempt result new desk.caller) where
   phase_alone : new ≡ record desk.caller { phase = new.phase }
   phase_alone = same_but_phase entry found attempt result desk.caller new so
 
   pub aim_goes : IsDesk d desk → Leads d desk (record desk { caller = new }) × ((service : List ℕ) → HasFound d service found desk → HasFound d service found (record desk { caller = new })) × ((op : ℕ) (ask : Ask) → FitsOn d op ask desk (record desk { caller = new }))
   aim_goes is =
       let quiet : IsQuiet d desk new = subst (IsQuiet d desk) (sym phase_alone) (record { grew = grew_none desk.caller.work desk.caller.work desk.caller.work.room desk.caller.work.stamp refl (omega arith); seat = is.seat; takes = takes_same (known desk.caller.seat); least = refl }) in
-      let leads = calm_leads d desk new quiet is (ap (λ (c : Caller). c.work.stamp) phase_alone) in
-      let least = ap (λ (c : Caller). c.least) phase_alone in (
+      let leads = calm_leads d desk new quiet is (ap (λ (c : CallerState). c.work.stamp) phase_alone) in
+      let least = ap (λ (c : CallerState). c.least) phase_alone in (
         leads,
         λ service has. let recent = has.recent in found_stays d desk (record desk { caller = new }) leads service found refl (omega (arith, recent, least)) has,
         λ op ask. no_more_fits d desk (record desk { caller = new }) leads quiet.grew op ask,
       )
 
-pub aim_aims : (d : Domain) (desk : Desk) (new : Caller) (found : FoundRows) (entry : Entry Cargo) (attempt : ℕ) (r : Aimed) → AimsAs entry found.rows attempt r new desk.caller → (ask : Ask) (event : Event) → IsRight d.cells (entry_in r) → HasFound d ask.service found desk → IsAimed d found ask.payload entry event desk → StillAimed d found ask.payload event r (record desk { caller = new })
+pub aim_aims : (d : Domain) (desk : Desk) (new : CallerState) (found : FoundRows) (entry : Entry Cargo) (attempt : ℕ) (r : Aimed) → AimsAs entry found.rows attempt r new desk.caller → (ask : Ask) (event : Event) → IsRight d.cells (entry_in r) → HasFound d ask.service found desk → IsAimed d found ask.payload entry event desk → StillAimed d found ask.payload event r (record desk { caller = new })
 aim_aims d desk new found entry attempt (aims.At aimed event') is ask event right has before = aims_at d found ask entry aimed event event' is.0 attempt desk (record desk { caller = new }) is.1 is.2 has before right
 aim_aims d desk new found entry attempt (aims.Past back) is ask event right has before =
-    aimed_stays d found ask.payload back event desk (record desk { caller = new }) (ap (λ (c : Caller). c.phase) is.2) (ap (λ (c : Caller). c.op) is.2) (ap (λ (c : Caller). c.priority) is.2) (subst (λ (e : Entry Cargo). IsAimed d found ask.payload e event desk) (sym is.1) before)
+    aimed_stays d found ask.payload back event desk (record desk { caller = new }) (ap (λ (c : CallerState). c.phase) is.2) (ap (λ (c : CallerState). c.op) is.2) (ap (λ (c : CallerState). c.priority) is.2) (subst (λ (e : Entry Cargo). IsAimed d found ask.payload e event desk) (sym is.1) before)
 aim_aims d desk new found entry attempt (aims.NoMemory back) is ask event right has before =
-    aimed_stays d found ask.payload back event desk (record desk { caller = new }) (ap (λ (c : Caller). c.phase) is.1) (ap (λ (c : Caller). c.op) is.1) (ap (λ (c : Caller). c.priority) is.1) (subst (λ (e : Entry Cargo). IsAimed d found ask.payload e event desk) (sym is.0) before)
+    aimed_stays d found ask.payload back event desk (record desk { caller = new }) (ap (λ (c : CallerState). c.phase) is.1) (ap (λ (c : CallerState). c.op) is.1) (ap (λ (c : CallerState). c.priority) is.1) (subst (λ (e : Entry Cargo). IsAimed d found ask.payload e event desk) (sym is.0) before)
 
 -- what a caller asks of an aim
 pub aim_requires : (d : Domain) (desk : Desk) (found : FoundRows) (entry : Entry Cargo) → IsDesk d desk → (ask : Ask) (event : Event) → HasFound d ask.service found desk → IsAimed d found ask.payload entry event desk

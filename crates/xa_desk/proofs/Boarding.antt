@@ -24,9 +24,9 @@ use Rattle.xa_server.specs.xa_held.BoardVisits.{BoardVisits, HasStampIn, Reaches
 use Rattle.xa_server.specs.xa_held.Joins.{changes_at}
 use Rattle.xa_server.proofs.xa_held.Fronts.{changes_front, published-front, seen_more, sees_still, change_stands}
 use Rattle.xa_server.proofs.xa_held.Owning.{board_own}
-use Rattle.xa_server.specs.xa_worker.Work.{Standing as Working, seeing}
+use Rattle.xa_server.specs.xa_worker.Work.{WorkState, seeing}
 use Rattle.xa_server.specs.xa_caller.declared.cargo.Filling.{Filling}
-use Rattle.xa_server.specs.xa_caller.Caller.{Standing as Caller}
+use Rattle.xa_server.specs.xa_caller.Caller.{CallerState}
 use Rattle.xa_desk.specs.declared.domain.Domain.{Domain}
 use Rattle.xa_desk.specs.declared.desk.Desk.{Desk}
 use Rattle.xa_desk.specs.Whole.{Whole, IsKnown}
@@ -82,8 +82,8 @@ module _ {d : Domain} {old new : Desk} {p p' : LockPass BoardNote} (step : Board
         → All (λ (x : Stamped). x.stamp.0 ≤ new.caller.work.stamp.0) (changes_at (page_of p').seen) → Moves d old new (changes_at more)
     board_moves grew home seat grounded same reached =
         let is = step.is in
-        let w : Working = old.caller.work in
-        let w' : Working = new.caller.work in
+        let w : WorkState = old.caller.work in
+        let w' : WorkState = new.caller.work in
         let least = least_before in
         let rises = version_rises in
         let visited : IsBoardPass d w' p' = record {
@@ -116,12 +116,12 @@ module _ {d : Domain} {old new : Desk} {p p' : LockPass BoardNote} (step : Board
     pub board_seen_leads : changes_at more ≡ [] → All (IsGrounded old.caller.work.own) more → (seen : Stamp) → new.caller ≡ record old.caller { work = seeing seen old.caller.work }
         → All (λ (x : Stamped). x.stamp.0 ≤ seen.0) (changes_at (page_of p').seen) → ((whole : Whole) → GoesOn d whole new → GoesOn d whole old → IsKnown whole seen) → Leads d old new
     board_seen_leads none grounded seen caller reached is_known =
-        let w : Working = old.caller.work in
-        let stamp : new.caller.work.stamp ≡ record { 0 = max w.stamp.0 seen.0 } = ap (λ (c : Caller). c.work.stamp) caller in
+        let w : WorkState = old.caller.work in
+        let stamp : new.caller.work.stamp ≡ record { 0 = max w.stamp.0 seen.0 } = ap (λ (c : CallerState). c.work.stamp) caller in
         let higher = ap (λ (s : Stamp). s.0) stamp in
-        let grew : Grew w new.caller.work [] = grew_none w new.caller.work w.room (record { 0 = max w.stamp.0 seen.0 }) (ap (λ (c : Caller). c.work) caller) (omega arith) in
+        let grew : Grew w new.caller.work [] = grew_none w new.caller.work w.room (record { 0 = max w.stamp.0 seen.0 }) (ap (λ (c : CallerState). c.work) caller) (omega arith) in
         none_leads step.is
         (subst (Moves d old new) none (board_moves (subst (Grew w new.caller.work) (sym {A = List Stamped} none) grew) (subst (All (λ (x : Stamped). home_of d.setup d.clients x.event ≡ BoardHome)) (sym {A = List Stamped} none) (All-nil (λ (x : Stamped). home_of d.setup d.clients x.event ≡ BoardHome)))
-        (ap (λ (c : Caller). c.seat) caller) (grounded_stay w new.caller.work [] grew more grounded) (ap (λ (c : Caller). c.least) caller)
+        (ap (λ (c : CallerState). c.seat) caller) (grounded_stay w new.caller.work [] grew more grounded) (ap (λ (c : CallerState). c.least) caller)
         (All-weaker (λ (x : Stamped). x.stamp.0 ≤ seen.0) (λ (x : Stamped). x.stamp.0 ≤ new.caller.work.stamp.0) (λ x le. omega (arith, le, higher)) (changes_at (page_of p').seen) reached)))
         (λ whole on back. subst (IsKnown whole) (sym stamp) (larger_known whole w.stamp seen (step.is.known_stamp whole back) (is_known whole on back)))

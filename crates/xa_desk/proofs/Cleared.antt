@@ -39,12 +39,12 @@ use Rattle.xa_server.proofs.xa_held.Climbing.{stamped}
 use Rattle.xa_server.proofs.xa_held.Fronts.{deserted, reached_last}
 use Rattle.xa_server.proofs.xa_held.Lefts.{gone_front}
 use Rattle.xa_server.proofs.xa_cell.Lists.{below}
-use Rattle.xa_server.specs.xa_worker.Work.{Standing as Working, seeing}
+use Rattle.xa_server.specs.xa_worker.Work.{WorkState, seeing}
 use Rattle.xa_server.specs.xa_worker.declared.work.Halt.{Halt}
 use Rattle.xa_server.specs.xa_worker.declared.work.Halt.TheVariants as halts
 use Rattle.xa_server.specs.xa_lock.declared.pass.Page.{Page}
 use Rattle.xa_server.specs.xa_caller.declared.cargo.Filling.{Filling}
-use Rattle.xa_server.specs.xa_caller.Caller.{Standing as Caller}
+use Rattle.xa_server.specs.xa_caller.Caller.{CallerState}
 use Rattle.xa_server.specs.xa_caller.Serving.{noted_off}
 use Rattle.xa_desk.specs.declared.domain.Domain.{Domain}
 use Rattle.xa_desk.specs.declared.desk.Desk.{Desk}
@@ -111,7 +111,7 @@ seen_known whole halts.NoMemory last n near is end = is
 seen_known whole (halts.Worn stamp) last n near is end = subst (IsKnown whole) (sym (stamp_is stamp n near.1)) end
 
 module _ {d : Domain} {desk new : Desk} {p p' : LockPass BoardNote} (step : BoardStep d desk new p p') (seen : Stamp) (saw : seen ≡ desk.caller.work.stamp) (maker : CallerId) (queue : QueueId) (left : IsDeserted d queue.0 desk) where
-  abbrev w : Working
+  abbrev w : WorkState
   w = desk.caller.work
 
   same_stamp : seen.0 ≡ w.stamp.0
@@ -135,7 +135,7 @@ module _ {d : Domain} {desk new : Desk} {p p' : LockPass BoardNote} (step : Boar
     withdrawn_is = withdrew.how.2.event_is
 
     grew : Grew w new.caller.work (its ∷ [])
-    grew = grew_one w new.caller.work w.room its (ap (λ (c : Caller). c.work) caller) rises (subst IsMade (sym withdrawn_is) refl)
+    grew = grew_one w new.caller.work w.room its (ap (λ (c : CallerState). c.work) caller) rises (subst IsMade (sym withdrawn_is) refl)
 
     old_front : (whole : Whole) → GoesOn d whole new → StartsWith whole.board.notes withdrew.old.notes
     old_front whole on = starts_trans whole.board.notes withdrew.new.notes withdrew.old.notes (subst (StartsWith whole.board.notes) withdrew.saw (board_front step whole on)) (change maker out, withdrew.grew)
@@ -160,10 +160,10 @@ module _ {d : Domain} {desk new : Desk} {p p' : LockPass BoardNote} (step : Boar
 
     withdrew_leads : Leads d desk new
     withdrew_leads =
-        let stamp : new.caller.work.stamp ≡ out.stamp = ap (λ (c : Caller). c.work.stamp) caller in
+        let stamp : new.caller.work.stamp ≡ out.stamp = ap (λ (c : CallerState). c.work.stamp) caller in
         one_leads its step.is
-        (board_moves step withdrew grew (All-cons (λ (x : Stamped). home_of d.setup d.clients x.event ≡ BoardHome) its [] (ap (home_of d.setup d.clients) withdrawn_is) (All-nil (λ (x : Stamped). home_of d.setup d.clients x.event ≡ BoardHome))) (ap (λ (c : Caller). c.seat) caller)
-        (All-cons (IsGrounded new.caller.work.own) _ [] tt (All-nil (IsGrounded new.caller.work.own))) (ap (λ (c : Caller). c.least) caller)
+        (board_moves step withdrew grew (All-cons (λ (x : Stamped). home_of d.setup d.clients x.event ≡ BoardHome) its [] (ap (home_of d.setup d.clients) withdrawn_is) (All-nil (λ (x : Stamped). home_of d.setup d.clients x.event ≡ BoardHome))) (ap (λ (c : CallerState). c.seat) caller)
+        (All-cons (IsGrounded new.caller.work.own) _ [] tt (All-nil (IsGrounded new.caller.work.own))) (ap (λ (c : CallerState). c.least) caller)
         (reached_last (page_of p').seen withdrew.new withdrew.saw withdrew.sound new.caller.work.stamp (withdrew.how.2.last ∙ sym stamp))) stamp shown
 
     pub withdrew_clears : new.queues.items ≡ desk.queues.items → Leads d desk new × IsDeserted d queue.0 new × OfDomain desk new × HasStamp new.caller.work.own new.caller.work.stamp
@@ -171,7 +171,7 @@ module _ {d : Domain} {desk new : Desk} {p p' : LockPass BoardNote} (step : Boar
       withdrew_leads,
       deserted_still d queue.0 desk new same withdrew_leads left,
       of_domain desk new out.stamp (withdrawal (record { 0 = 0 }) 0 row.service queue (version_of withdrew.old.board + 1)) (record { domain = refl; none = refl }) (caller ∙ ap (λ (e : Event). noted_off out.stamp e desk.caller) withdrawn_is),
-      (its, subst (λ (l : List Stamped). Contains l its) (sym {A = List Stamped} grew.own) (Contains-push w.own its), sym (ap (λ (c : Caller). c.work.stamp) caller)),
+      (its, subst (λ (l : List Stamped). Contains l its) (sym {A = List Stamped} grew.own) (Contains-push w.own its), sym (ap (λ (c : CallerState). c.work.stamp) caller)),
     )
 
   -- none of it stands
@@ -193,7 +193,7 @@ module _ {d : Domain} {desk new : Desk} {p p' : LockPass BoardNote} (step : Boar
     looked_cleared : IsCleared d queue.0 new
     looked_cleared whole on later less =
         let before = looked_leads.before whole on in
-        let higher = ap (λ (c : Caller). c.work.stamp.0) caller in
+        let higher = ap (λ (c : CallerState). c.work.stamp.0) caller in
         deserted d.setup (page_of p) (page_of p') (queue_page desk queue.0) seen later maker queue look whole.board (whole.queues queue.0) looked (board_before step).booted (subst (λ s. SawLeft d.setup queue.0 s (queue_page desk queue.0)) (sym saw) left.left) (omega (arith, less, higher, same_stamp))
         on.sound (board_front step whole on) (before.queues queue.0)
 
@@ -221,4 +221,4 @@ module _ {d : Domain} {desk new : Desk} {p p' : LockPass BoardNote} (step : Boar
       where
         by : (halt : Halt) (n : ℕ) → EndsAt n halt → new.caller ≡ record desk.caller { work = seeing (seen_by halt last) w } → IsHaltNear new halt
         by halts.NoMemory n near so = tt
-        by (halts.Worn stamp) n near so = let end = near.0 in let higher = ap (λ (c : Caller). c.work.stamp.0) so in (end, omega (arith, end, same_stamp, higher, low))
+        by (halts.Worn stamp) n near so = let end = near.0 in let higher = ap (λ (c : CallerState). c.work.stamp.0) so in (end, omega (arith, end, same_stamp, higher, low))

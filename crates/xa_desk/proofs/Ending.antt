@@ -26,8 +26,8 @@ use Rattle.xa_server.specs.xa_held.Joins.{changes_at}
 use Rattle.xa_server.specs.xa_held.Kept.{IsRight}
 use Rattle.xa_server.specs.xa_worker.declared.work.Halt.{Halt}
 use Rattle.xa_server.specs.xa_worker.declared.work.Halt.TheVariants.{NoMemory, Worn}
-use Rattle.xa_server.specs.xa_worker.Work.{Standing as Working, theirs}
-use Rattle.xa_server.specs.xa_caller.Caller.{Standing as Caller}
+use Rattle.xa_server.specs.xa_worker.Work.{WorkState, theirs}
+use Rattle.xa_server.specs.xa_caller.Caller.{CallerState}
 use Rattle.xa_server.specs.xa_caller.Drafts.{Cargo}
 use Rattle.xa_server.specs.xa_caller.Serving.{raised}
 use Rattle.xa_server.specs.declared.closing.Closing.{Closing}
@@ -46,7 +46,7 @@ use Rattle.xa_desk.proofs.Leading.{grew_one, grew_none, next_leads, calm_leads}
 use Rattle.xa_desk.proofs.Seating.{TakesOn, takes_same}
 use Rattle.xa_desk.proofs.Stopping.{same_leads}
 
-abbrev pub reworked : Desk → Working → Desk
+abbrev pub reworked : Desk → WorkState → Desk
 reworked desk w = record desk { caller = record desk.caller { work = w } }
 
 -- ---- the request in hand, by what is known of its entry
@@ -79,7 +79,7 @@ raised_low : (named : Option ℕ) (least seen : ℕ) → least ≤ seen → ((ve
 raised_low None least seen low is = low
 raised_low (Some version) least seen low is = let here = is version refl in omega (arith, low, here)
 
-pub end_leads : (d : Domain) (queue : ℕ) (desk : Desk) (slot slot' : ServerSlot) (outcome : Outcome) (stamp : Stamp) (room : ℕ) (new : Caller) → IsDesk d desk → IsServing d queue slot desk → WasSeen d desk outcome
+pub end_leads : (d : Domain) (queue : ℕ) (desk : Desk) (slot slot' : ServerSlot) (outcome : Outcome) (stamp : Stamp) (room : ℕ) (new : CallerState) → IsDesk d desk → IsServing d queue slot desk → WasSeen d desk outcome
     → Ends outcome stamp slot' slot new.work (record desk.caller.work { room = room }) → new ≡ record desk.caller { work = new.work; least = raised (version_of outcome) desk.caller.least } → Leads d desk (record desk { caller = new })
 end_leads d queue desk slot slot' outcome stamp room new is serving seen ends rest =
     let x : Stamped = record { stamp = stamp; event = End (record { request = ends.entry.request; server = slot.server; generation = life_in slot.doing; outcome = outcome }) } in
@@ -87,16 +87,16 @@ end_leads d queue desk slot slot' outcome stamp room new is serving seen ends re
     let number = serving.stands.tables.worker.number in
     let next = ends.noted.next in
     let made = ends.noted.made in
-    next_leads d desk new x (grew_one desk.caller.work new.work (room - 1) x made (omega (arith, next)) tt) (ap (λ (w : Working). w.stamp) made) (ap CallerHome (ap (λ n. caller_of n slot.server.0) (sym is.clients) ∙ number))
-    (subst (λ (c : Caller). IsSeatOf d.cells c.seat) (sym rest) is.seat) (subst (λ (c : Caller). TakesOn (known desk.caller.seat) (known c.seat)) (sym rest) (takes_same (known desk.caller.seat))) tt
-    (subst (λ (c : Caller). c.least ≤ version) (sym rest) (raised_low (version_of outcome) desk.caller.least version is.least (λ v some. (seen v some).0))) is next
+    next_leads d desk new x (grew_one desk.caller.work new.work (room - 1) x made (omega (arith, next)) tt) (ap (λ (w : WorkState). w.stamp) made) (ap CallerHome (ap (λ n. caller_of n slot.server.0) (sym is.clients) ∙ number))
+    (subst (λ (c : CallerState). IsSeatOf d.cells c.seat) (sym rest) is.seat) (subst (λ (c : CallerState). TakesOn (known desk.caller.seat) (known c.seat)) (sym rest) (takes_same (known desk.caller.seat))) tt
+    (subst (λ (c : CallerState). c.least ≤ version) (sym rest) (raised_low (version_of outcome) desk.caller.least version is.least (λ v some. (seen v some).0))) is next
     (λ whole on. record { saw = λ v some. (seen v some).1 whole on stamp (omega (arith, next)); told = tt; clears = tt })
 
 -- it names none
 abbrev pub IsPlain : Outcome → Type 0
 IsPlain outcome = version_of outcome ≡ None
 
-pub plain_leads : (d : Domain) (queue : ℕ) (desk : Desk) (slot slot' : ServerSlot) (outcome : Outcome) (stamp : Stamp) (room : ℕ) (new : Working) → IsDesk d desk → IsServing d queue slot desk → IsPlain outcome
+pub plain_leads : (d : Domain) (queue : ℕ) (desk : Desk) (slot slot' : ServerSlot) (outcome : Outcome) (stamp : Stamp) (room : ℕ) (new : WorkState) → IsDesk d desk → IsServing d queue slot desk → IsPlain outcome
     → Ends outcome stamp slot' slot new (record desk.caller.work { room = room }) → Leads d desk (reworked desk new)
 plain_leads d queue desk slot slot' outcome stamp room new is serving plain ends =
     end_leads d queue desk slot slot' outcome stamp room (record desk.caller { work = new }) is serving (λ version some. absurd (cc (plain, some))) ends (ap (λ (named : Option ℕ). record desk.caller { work = new; least = raised named desk.caller.least }) (sym plain))
@@ -108,25 +108,25 @@ plain_return Fail code payload true = refl
 plain_return Exit code payload true = refl
 
 -- and what its caller is told
-pub ended_told : (d : Domain) (desk : Desk) (slot slot' : ServerSlot) (outcome : Outcome) (closing : Closing) (new : Caller) → IfSome slot.hand (IsRight d.cells) → Finishes outcome closing slot' slot new.work desk.caller.work → IsToTell d (record desk { caller = new }) closing
+pub ended_told : (d : Domain) (desk : Desk) (slot slot' : ServerSlot) (outcome : Outcome) (closing : Closing) (new : CallerState) → IfSome slot.hand (IsRight d.cells) → Finishes outcome closing slot' slot new.work desk.caller.work → IsToTell d (record desk { caller = new }) closing
 ended_told d desk slot slot' outcome closing new right f =
     let backed = finish_backed outcome closing slot' slot new.work desk.caller.work f (names_its d slot.hand right) in
     record {
       backed = backed.0;
       ticket = closes_ticket d (reply_of (EndedBy outcome)) f.stamp slot.hand closing f.closes right;
       reached = backed.1;
-      noted = λ answered. not_empty desk.caller.work.own _ new.work.own (ap (λ (w : Working). w.own) f.ends.noted.made);
+      noted = λ answered. not_empty desk.caller.work.own _ new.work.own (ap (λ (w : WorkState). w.own) f.ends.noted.made);
     }
 
 -- ---- a return
 
-pub halted_leads : (d : Domain) (desk : Desk) (n : ℕ) (new : Working) (halt : Halt) → IsDesk d desk → HaltsWith n new desk.caller.work halt → Leads d desk (reworked desk new)
-halted_leads d desk n new NoMemory is same = subst (λ (w : Working). Leads d desk (reworked desk w)) (sym same) (same_leads d desk is)
+pub halted_leads : (d : Domain) (desk : Desk) (n : ℕ) (new : WorkState) (halt : Halt) → IsDesk d desk → HaltsWith n new desk.caller.work halt → Leads d desk (reworked desk new)
+halted_leads d desk n new NoMemory is same = subst (λ (w : WorkState). Leads d desk (reworked desk w)) (sym same) (same_leads d desk is)
 halted_leads d desk n new (Worn last) is worn =
-    subst (λ (w : Working). Leads d desk (reworked desk w)) (sym worn.0)
+    subst (λ (w : WorkState). Leads d desk (reworked desk w)) (sym worn.0)
     (calm_leads d desk (record desk.caller { work = with_room n desk.caller.work }) (record { grew = grew_none desk.caller.work (with_room n desk.caller.work) (max desk.caller.work.room n) desk.caller.work.stamp refl (omega arith); seat = is.seat; takes = takes_same (known desk.caller.seat); least = refl }) is refl)
 
-module _ (d : Domain) (queue : ℕ) (desk : Desk) (slot slot' : ServerSlot) (value : Rval) (code : ℤ) (payload : Data) (new : Working) (is : IsDesk d desk) (serving : IsServing d queue slot desk) where
+module _ (d : Domain) (queue : ℕ) (desk : Desk) (slot slot' : ServerSlot) (value : Rval) (code : ℤ) (payload : Data) (new : WorkState) (is : IsDesk d desk) (serving : IsServing d queue slot desk) where
   abbrev outcome : Outcome
   outcome = return_by desk.caller.work.setup (connections desk.caller.work.id.0 (theirs desk.caller.work)) value code payload
 

@@ -35,7 +35,7 @@ use Rattle.xa_server.specs.xa_held.Steps.{WentDownAs, SweptAs}
 use Rattle.xa_server.specs.xa_held.Visits.{Sees, Visits}
 use Rattle.xa_server.proofs.xa_held.Front.{is_down-whole, all_gone-whole}
 use Rattle.xa_server.specs.xa_worker.Work.{seeing}
-use Rattle.xa_server.specs.xa_caller.Caller.{Standing as Caller}
+use Rattle.xa_server.specs.xa_caller.Caller.{CallerState}
 use Rattle.xa_server.specs.xa_caller.declared.cargo.Filling.{Filling}
 use Rattle.xa_server.specs.xa_caller.Drafts.{Cargo}
 use Rattle.xa_server.specs.xa_caller.Serving.{noted_off}
@@ -121,9 +121,9 @@ module _ {d : Domain} {queue k : ℕ} {desk new : Desk} {p p' : QueuePass} {last
 of_more : (desk new : Desk) (stamp : Stamp) (own more : List Stamped) → new.caller ≡ record desk.caller { work = record desk.caller.work { stamp = stamp; own = own } } → own ≡ desk.caller.work.own ++ more → All (λ (x : Stamped). IsOfDomain x.event) more → OfDomain desk new
 of_more desk new stamp own more caller is theirs = record {
   more = more;
-  own = ap (λ (c : Caller). c.work.own) caller ∙ is;
+  own = ap (λ (c : CallerState). c.work.own) caller ∙ is;
   theirs = theirs;
-  rest = subst (λ (c : Caller). c ≡ record desk.caller { work = record desk.caller.work { stamp = c.work.stamp; own = c.work.own } }) (sym caller) refl;
+  rest = subst (λ (c : CallerState). c ≡ record desk.caller { work = record desk.caller.work { stamp = c.work.stamp; own = c.work.own } }) (sym caller) refl;
 }
 
 pub of_domain : (desk new : Desk) (stamp : Stamp) (e : Event) → IsOfDomain e → new.caller ≡ noted_off stamp e desk.caller → OfDomain desk new
@@ -139,7 +139,7 @@ of_both a b c first second = record {
   more = first.more ++ second.more;
   own = second.own ∙ ap (λ (l : List Stamped). l ++ second.more) first.own ∙ append_assoc a.caller.work.own first.more second.more;
   theirs = All-append (λ (x : Stamped). IsOfDomain x.event) first.more second.more first.theirs second.theirs;
-  rest = second.rest ∙ ap (λ (x : Caller). record x { work = record x.work { stamp = c.caller.work.stamp; own = c.caller.work.own } }) first.rest;
+  rest = second.rest ∙ ap (λ (x : CallerState). record x { work = record x.work { stamp = c.caller.work.stamp; own = c.caller.work.own } }) first.rest;
 }
 
 -- what the caller of a request that was swept is to be told
@@ -147,7 +147,7 @@ pub to_tell : (d : Domain) (desk new : Desk) (entry : Entry Cargo) (queue : Queu
     → (closing : Closing) → closing ≡ closing_of entry (Some (reply_of SweptAway)) stamp → IsToTell d new closing
 to_tell d desk new entry queue stamp right caller closing is =
     let x : Stamped = record { stamp = stamp; event = Sweep (record { request = entry.request; queue = queue }) } in
-    let own : new.caller.work.own ≡ desk.caller.work.own ++ x ∷ [] = ap (λ (c : Caller). c.work.own) caller in
+    let own : new.caller.work.own ≡ desk.caller.work.own ++ x ∷ [] = ap (λ (c : CallerState). c.work.own) caller in
     let here : Contains new.caller.work.own x = subst (λ (l : List Stamped). Contains l x) (sym {A = List Stamped} own) (Contains-push desk.caller.work.own x) in
     let last : last_stamp no_stamp new.caller.work.own ≡ stamp.0 = ap (last_stamp no_stamp) own ∙ last_stamp-push no_stamp desk.caller.work.own x in
     let at = ap (λ (c : Closing). c.stamp.0) is in

@@ -18,7 +18,7 @@ use Rattle.xa_server.specs.xa_worker.Calls.{FitsOwn, FitsTurn}
 use Rattle.xa_server.specs.xa_worker.Seen.{past_in}
 use Rattle.xa_server.specs.xa_worker.Going.{FitEach}
 use Rattle.xa_server.proofs.xa_worker.Noting.{each-more}
-use Rattle.xa_server.specs.xa_caller.Caller.{IsSound, Reads, Standing as Caller}
+use Rattle.xa_server.specs.xa_caller.Caller.{IsSound, Reads, CallerState}
 use Rattle.xa_server.specs.xa_caller.Phases.{just_in}
 use Rattle.xa_desk.specs.declared.domain.Domain.{Domain}
 use Rattle.xa_desk.specs.declared.desk.Desk.{Desk}
@@ -76,10 +76,10 @@ module _ (d : Domain) where
   abbrev pub GoesFor : ℕ → Ask → Desk → Desk → Type 0
   GoesFor op ask old new = Leads d old new × FitsOn d op ask old new
 
-  pub kept_goes : (desk : Desk) (op : ℕ) (ask : Ask) (new : Caller) → IsDesk d desk → new ≡ desk.caller → GoesFor op ask desk (record desk { caller = new })
-  kept_goes desk op ask new is kept = subst (λ (c : Caller). GoesFor op ask desk (record desk { caller = c })) (sym kept) (same_leads d desk is, λ ops its fits. fits)
+  pub kept_goes : (desk : Desk) (op : ℕ) (ask : Ask) (new : CallerState) → IsDesk d desk → new ≡ desk.caller → GoesFor op ask desk (record desk { caller = new })
+  kept_goes desk op ask new is kept = subst (λ (c : CallerState). GoesFor op ask desk (record desk { caller = c })) (sym kept) (same_leads d desk is, λ ops its fits. fits)
 
-  pub quiet_goes : (desk : Desk) (new : Caller) → IsQuiet d desk new → IsDesk d desk → new.work.stamp ≡ desk.caller.work.stamp → (op : ℕ) (ask : Ask) → GoesFor op ask desk (record desk { caller = new })
+  pub quiet_goes : (desk : Desk) (new : CallerState) → IsQuiet d desk new → IsDesk d desk → new.work.stamp ≡ desk.caller.work.stamp → (op : ℕ) (ask : Ask) → GoesFor op ask desk (record desk { caller = new })
   quiet_goes desk new quiet is same op ask =
       let leads = calm_leads d desk new quiet is same in
       (leads, no_more_fits desk (record desk { caller = new }) leads quiet.grew op ask)

@@ -27,9 +27,9 @@ use Rattle.xa_server.specs.xa_held.Joins.{changes_at, events_at}
 use Rattle.xa_server.specs.xa_held.Kept.{notes_of}
 use Rattle.xa_server.specs.xa_lock.Known.{known as page_of}
 use Rattle.xa_server.specs.xa_lock.Pages.{StartsWith}
-use Rattle.xa_server.specs.xa_worker.Work.{Standing as Working}
+use Rattle.xa_server.specs.xa_worker.Work.{WorkState}
 use Rattle.xa_server.specs.xa_caller.declared.cargo.Filling.{Filling}
-use Rattle.xa_server.specs.xa_caller.Caller.{Standing as Caller}
+use Rattle.xa_server.specs.xa_caller.Caller.{CallerState}
 use Rattle.xa_server.specs.Told.{HasStamp, FilledByEnds}
 use Rattle.xa_server.proofs.Telling.{fillings_stay}
 use Rattle.xa_desk.specs.declared.domain.Domain.{Domain}
@@ -55,7 +55,7 @@ pub one_made : (x : Stamped) → IsMade x.event → AllMade (x ∷ [])
 one_made x is = All-cons (λ (y : Stamped). IsMade y.event) x [] is none_made
 
 -- the work went on, by these events
-pub record Grew (w w' : Working) (more : List Stamped) : Type 0 where
+pub record Grew (w w' : WorkState) (more : List Stamped) : Type 0 where
   pub setup : w'.setup ≡ w.setup
   pub clients : w'.clients ≡ w.clients
   pub id : w'.id ≡ w.id
@@ -64,41 +64,41 @@ pub record Grew (w w' : Working) (more : List Stamped) : Type 0 where
   pub made : AllMade more
 
 -- the work with an event more, or with none and a later stamp, and it may be with other room
-pub grew_one : (w w' : Working) (room : ℕ) (x : Stamped) → w' ≡ record w { stamp = x.stamp; own = w.own ++ x ∷ []; room = room } → w.stamp.0 < x.stamp.0 → IsMade x.event → Grew w w' (x ∷ [])
-grew_one w w' room x is rises kind = subst (λ (v : Working). Grew w v (x ∷ [])) (sym is) (record { setup = refl; clients = refl; id = refl; own = refl; stamp = omega (arith, rises); made = one_made x kind })
+pub grew_one : (w w' : WorkState) (room : ℕ) (x : Stamped) → w' ≡ record w { stamp = x.stamp; own = w.own ++ x ∷ []; room = room } → w.stamp.0 < x.stamp.0 → IsMade x.event → Grew w w' (x ∷ [])
+grew_one w w' room x is rises kind = subst (λ (v : WorkState). Grew w v (x ∷ [])) (sym is) (record { setup = refl; clients = refl; id = refl; own = refl; stamp = omega (arith, rises); made = one_made x kind })
 
-pub grew_none : (w w' : Working) (room : ℕ) (stamp : Stamp) → w' ≡ record w { stamp = stamp; room = room } → w.stamp.0 ≤ stamp.0 → Grew w w' []
-grew_none w w' room stamp is later = subst (λ (v : Working). Grew w v []) (sym is) (record { setup = refl; clients = refl; id = refl; own = sym (append-nil w.own); stamp = later; made = none_made })
+pub grew_none : (w w' : WorkState) (room : ℕ) (stamp : Stamp) → w' ≡ record w { stamp = stamp; room = room } → w.stamp.0 ≤ stamp.0 → Grew w w' []
+grew_none w w' room stamp is later = subst (λ (v : WorkState). Grew w v []) (sym is) (record { setup = refl; clients = refl; id = refl; own = sym (append-nil w.own); stamp = later; made = none_made })
 
 -- what is filled has its end still
-pub filled_more : (w w' : Working) (more : List Stamped) (v v' : View Filling) → Grew w w' more → TakesOn v v' → FilledByEnds w.own v → FilledByEnds w'.own v'
+pub filled_more : (w w' : WorkState) (more : List Stamped) (v v' : View Filling) → Grew w w' more → TakesOn v v' → FilledByEnds w.own v → FilledByEnds w'.own v'
 filled_more w w' more v v' grew takes filled = filled_on w'.own v v' takes (subst (λ (l : List Stamped). FilledByEnds l v) (sym {A = List Stamped} grew.own) (fillings_stay w.own more v filled))
 
 -- each answer was taken still, and so are these
-pub took_more : (w w' : Working) (more : List Stamped) (v v' : View Filling) → Grew w w' more → TakesAll v v' → AnswersTaken v w.own → AnswersTaken v' more → AnswersTaken v' w'.own
+pub took_more : (w w' : WorkState) (more : List Stamped) (v v' : View Filling) → Grew w w' more → TakesAll v v' → AnswersTaken v w.own → AnswersTaken v' more → AnswersTaken v' w'.own
 took_more w w' more v v' grew takes old new = subst (AnswersTaken v') (sym {A = List Stamped} grew.own) (All-append (λ (x : Stamped). WasTaken v' x.stamp x.event) w.own more (took_on w.own v v' takes old) new)
 
 -- and they stand where the domain has homes
-pub among_more : (d : Domain) (w w' : Working) (more : List Stamped) → Grew w w' more → AllAmong d more → AllAmong d w.own → AllAmong d w'.own
+pub among_more : (d : Domain) (w w' : WorkState) (more : List Stamped) → Grew w w' more → AllAmong d more → AllAmong d w.own → AllAmong d w'.own
 among_more d w w' more grew new old = subst (AllAmong d) (sym {A = List Stamped} grew.own) (All-append (λ (x : Stamped). IsAmong (length d.queues.items) (home_of d.setup d.clients x.event)) w.own more old new)
 
 -- those of one home do if that is one
 pub among_at : (d : Domain) (home : Home) (more : List Stamped) → IsAmong (length d.queues.items) home → All (λ (x : Stamped). home_of d.setup d.clients x.event ≡ home) more → AllAmong d more
 among_at d home more is at = All-weaker (λ (x : Stamped). home_of d.setup d.clients x.event ≡ home) (λ (x : Stamped). IsAmong (length d.queues.items) (home_of d.setup d.clients x.event)) (λ x here. subst (IsAmong (length d.queues.items)) (sym here) is) more at
 
-pub made_more : (w w' : Working) (more : List Stamped) → Grew w w' more → AllMade w.own → AllMade w'.own
+pub made_more : (w w' : WorkState) (more : List Stamped) → Grew w w' more → AllMade w.own → AllMade w'.own
 made_more w w' more grew made = subst AllMade (sym {A = List Stamped} grew.own) (All-append (λ (x : Stamped). IsMade x.event) w.own more made grew.made)
 
 -- a stamp of an event stays one
-pub stamp_stays : (w w' : Working) (more : List Stamped) → Grew w w' more → (stamp : Stamp) → HasStamp w.own stamp → HasStamp w'.own stamp
+pub stamp_stays : (w w' : WorkState) (more : List Stamped) → Grew w w' more → (stamp : Stamp) → HasStamp w.own stamp → HasStamp w'.own stamp
 stamp_stays w w' more grew stamp has = (has.0, subst (λ (l : List Stamped). Contains l has.0) (sym {A = List Stamped} grew.own) (Contains-append_left w.own more has.0 has.1), has.2)
 
-grounded_one : (w w' : Working) (more : List Stamped) → Grew w w' more → (note : BoardNote) → IsGrounded w.own note → IsGrounded w'.own note
+grounded_one : (w w' : WorkState) (more : List Stamped) → Grew w w' more → (note : BoardNote) → IsGrounded w.own note → IsGrounded w'.own note
 grounded_one w w' more grew (Opened setup) is = tt
 grounded_one w w' more grew (By change) is = tt
 grounded_one w w' more grew (Looked look) is = elim is [ inl left ↦ inl left | inr has ↦ inr (stamp_stays w w' more grew look.stamp has) ]
 
-pub grounded_stay : (w w' : Working) (more : List Stamped) → Grew w w' more → (notes : List BoardNote) → All (IsGrounded w.own) notes → All (IsGrounded w'.own) notes
+pub grounded_stay : (w w' : WorkState) (more : List Stamped) → Grew w w' more → (notes : List BoardNote) → All (IsGrounded w.own) notes → All (IsGrounded w'.own) notes
 grounded_stay w w' more grew notes all = All-weaker (IsGrounded w.own) (IsGrounded w'.own) (grounded_one w w' more grew) notes all
 
 -- the worker gave up the queue's last server still
@@ -123,7 +123,7 @@ is_behind last stamp _ less = less
 module _ (d : Domain) where
   -- ---- passes of homes at which nothing was noted
 
-  module _ (w w' : Working) (more : List Stamped) (grew : Grew w w' more) where
+  module _ (w w' : WorkState) (more : List Stamped) (grew : Grew w w' more) where
     pub board_pass_stays : All (λ (x : Stamped). stands_at d.setup d.clients BoardHome x ≡ false) more → (pass : LockPass BoardNote) → IsBoardPass d w pass → IsBoardPass d w' pass
     board_pass_stays off pass is = record {
       lock = is.lock;
@@ -152,14 +152,14 @@ module _ (d : Domain) where
 
   -- ---- what is shown
 
-  pub shows_more : (whole : Whole) (w w' : Working) (x : Stamped) → Grew w w' (x ∷ []) → Shows d whole w → IsShown d whole w.id.0 w.own x → Shows d whole w'
+  pub shows_more : (whole : Whole) (w w' : WorkState) (x : Stamped) → Grew w w' (x ∷ []) → Shows d whole w → IsShown d whole w.id.0 w.own x → Shows d whole w'
   shows_more whole w w' x grew shows shown =
       let EachShown : CallerId → List Stamped → Type 0 = λ id newest. AtEach (λ (y : Stamped) older. IsShown d whole id.0 (reverse older) y) newest in
       subst (λ (l : List Stamped). EachShown w'.id (reverse l)) (sym {A = List Stamped} grew.own)
       (subst (EachShown w'.id) (sym (reverse-append w.own (x ∷ [])))
       (subst (λ (id : CallerId). EachShown id (x ∷ reverse w.own)) (sym grew.id) (subst (λ (own : List Stamped). IsShown d whole w.id.0 own x) (sym (reverse-reverse w.own)) shown, shows)))
 
-  pub shows_still : (whole : Whole) (w w' : Working) → Grew w w' [] → Shows d whole w → Shows d whole w'
+  pub shows_still : (whole : Whole) (w w' : WorkState) → Grew w w' [] → Shows d whole w → Shows d whole w'
   shows_still whole w w' grew shows =
       let EachShown : CallerId → List Stamped → Type 0 = λ id newest. AtEach (λ (y : Stamped) older. IsShown d whole id.0 (reverse older) y) newest in
       subst (λ (id : CallerId). EachShown id (reverse w'.own)) (sym grew.id) (subst (λ (l : List Stamped). EachShown w.id (reverse l)) (sym {A = List Stamped} (grew.own ∙ append-nil w.own)) shows)
@@ -256,11 +256,11 @@ module _ {d : Domain} {old new : Desk} where
 
 -- ---- a desk whose caller alone goes on
 
-module _ {d : Domain} {desk : Desk} {new : Caller} where
+module _ {d : Domain} {desk : Desk} {new : CallerState} where
   pub own_moves : {more : List Stamped} → IsDesk d desk → Grew desk.caller.work new.work more → All (λ (x : Stamped). home_of d.setup d.clients x.event ≡ CallerHome desk.caller.work.id.0) more → IsSeatOf d.cells new.seat → TakesAll (known desk.caller.seat) (known new.seat)
       → FilledByEnds new.work.own (known new.seat) → AnswersTaken (known new.seat) more → new.least ≤ published (past_in (changes_at (board_page desk).seen)) → Moves d desk (record desk { caller = new }) more
   own_moves {more} is grew home seat taken filled took least =
-      let w : Working = desk.caller.work in
+      let w : WorkState = desk.caller.work in
       let own : Home = CallerHome w.id.0 in
       record {
         grew = grew;
@@ -278,13 +278,13 @@ module _ {d : Domain} {desk : Desk} {new : Caller} where
       }
 
 -- the caller noted nothing, and reads no older version
-pub record IsQuiet (d : Domain) (desk : Desk) (new : Caller) : Type 0 where
+pub record IsQuiet (d : Domain) (desk : Desk) (new : CallerState) : Type 0 where
   pub grew : Grew desk.caller.work new.work []
   pub seat : IsSeatOf d.cells new.seat
   pub takes : TakesOn (known desk.caller.seat) (known new.seat)
   pub least : new.least ≡ desk.caller.least
 
-module _ (d : Domain) (desk : Desk) (new : Caller) where
+module _ (d : Domain) (desk : Desk) (new : CallerState) where
   -- the caller noted an event at its own home
   pub own_leads : (x : Stamped) → Grew desk.caller.work new.work (x ∷ []) → new.work.stamp ≡ x.stamp → home_of d.setup d.clients x.event ≡ CallerHome desk.caller.work.id.0 → IsSeatOf d.cells new.seat → TakesOn (known desk.caller.seat) (known new.seat)
       → WasTaken (known new.seat) x.stamp x.event → new.least ≤ published (past_in (changes_at (board_page desk).seen)) → IsDesk d desk → ((whole : Whole) → GoesOn d whole (record desk { caller = new }) → GoesOn d whole desk → IsShown d whole desk.caller.work.id.0 desk.caller.work.own x) → Leads d desk (record desk { caller = new })

@@ -21,7 +21,7 @@ use Rattle.xa_server.specs.xa_held.Steps.{GaveUpAs}
 use Rattle.xa_server.specs.xa_held.Visits.{Visits}
 use Rattle.xa_server.proofs.xa_held.Lefts.{events_front, saw_left, saw_others, seen_gone}
 use Rattle.xa_server.proofs.xa_held.Seen.{events_kept}
-use Rattle.xa_server.specs.xa_caller.Caller.{Standing as Caller}
+use Rattle.xa_server.specs.xa_caller.Caller.{CallerState}
 use Rattle.xa_server.specs.xa_caller.declared.cargo.Filling.{Filling}
 use Rattle.xa_server.specs.xa_caller.Serving.{noted_off}
 use Rattle.xa_server.specs.declared.slot.ServerSlot.{ServerSlot}
@@ -55,8 +55,8 @@ module _ {d : Domain} {queue k : ℕ} {desk new : Desk} {p p' : QueuePass} {last
   left_gave : SawLeft d.setup queue new.caller.work.stamp (queue_page new queue) → GaveUp d queue new
   left_gave saw_last whole on stamp less =
       let entry : Stamped = record { stamp = done.noted.stamp; event = Gone slot.server } in
-      let own : new.caller.work.own ≡ desk.caller.work.own ++ entry ∷ [] = ap (λ (c : Caller). c.work.own) caller ∙ ap (λ (e : Event). desk.caller.work.own ++ record { stamp = done.noted.stamp; event = e } ∷ []) event in
-      let now : new.caller.work.stamp ≡ done.noted.stamp = ap (λ (c : Caller). c.work.stamp) caller in
+      let own : new.caller.work.own ≡ desk.caller.work.own ++ entry ∷ [] = ap (λ (c : CallerState). c.work.own) caller ∙ ap (λ (e : Event). desk.caller.work.own ++ record { stamp = done.noted.stamp; event = e } ∷ []) event in
+      let now : new.caller.work.stamp ≡ done.noted.stamp = ap (λ (c : CallerState). c.work.stamp) caller in
       let reached = ap (λ (s : Stamp). s.0) now in
       record {
         server = slot.server;

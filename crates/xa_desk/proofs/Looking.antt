@@ -28,7 +28,7 @@ use Rattle.xa_server.specs.xa_held.BoardVisits.{BoardVisits, ReachesBoard}
 use Rattle.xa_server.specs.xa_held.Joins.{changes_at}
 use Rattle.xa_server.proofs.xa_held.Standing.{found_grows, found_configured, found_placed, found_listed, found_later, found_seen, found_admits}
 use Rattle.xa_server.specs.xa_worker.Work.{seeing}
-use Rattle.xa_server.specs.xa_caller.Caller.{Standing as Caller}
+use Rattle.xa_server.specs.xa_caller.Caller.{CallerState}
 use Rattle.xa_desk.specs.declared.domain.Domain.{Domain}
 use Rattle.xa_desk.specs.declared.desk.Desk.{Desk}
 use Rattle.xa_desk.specs.Whole.{Whole}
@@ -84,7 +84,7 @@ module _ {d : Domain} {old new : Desk} {p p' : LockPass BoardNote} (step : Board
 
   later : (stamp : Stamp) → new.caller.work.stamp.0 < stamp.0 → 0 < found.version → found.stamp.0 < stamp.0
   later stamp less =
-      let higher = ap (λ (c : Caller). c.work.stamp.0) caller in
+      let higher = ap (λ (c : CallerState). c.work.stamp.0) caller in
       found_later found_it last stamp (subst (All (λ (x : Stamped). x.stamp.0 ≤ last.0)) same_changes reaches.each) (omega (arith, less, higher))
 
   front : (whole : Whole) → GoesOn d whole new → StartsWith whole.board.notes notes
@@ -94,7 +94,7 @@ module _ {d : Domain} {old new : Desk} {p p' : LockPass BoardNote} (step : Board
   look_found domain =
       let sees = (board_before step).sees in
       let least = least_before step in
-      let same = ap (λ (c : Caller). c.least) caller in
+      let same = ap (λ (c : CallerState). c.least) caller in
       let grows = found_grows (page_of p) Q [] name false found last found_it in
       let queues = domain.queues in
       record {
@@ -115,7 +115,7 @@ module _ {d : Domain} {old new : Desk} {p p' : LockPass BoardNote} (step : Board
     look = look;
     rest = [];
     stands = ap (λ (o : Option (LockPass BoardNote)). (page_in o).seen) step.now ∙ stands;
-    its = looked.how.0.its ∙ its ∙ sym (ap (λ (c : Caller). c.work.id) caller);
+    its = looked.how.0.its ∙ its ∙ sym (ap (λ (c : CallerState). c.work.id) caller);
     later = subst (λ (o : Option (LockPass BoardNote)). StartsWith notes (page_in o).seen) (sym step.was) looked.knew.1;
     shows = found_seen found_it;
   }

@@ -52,7 +52,7 @@ use Rattle.xa_server.specs.xa_worker.Work.{seeing}
 use Rattle.xa_server.specs.xa_caller.declared.cargo.Filling.{Filling}
 use Rattle.xa_server.specs.xa_caller.declared.outcomes.Aimed.{Aimed}
 use Rattle.xa_server.specs.xa_caller.declared.outcomes.Aimed.TheVariants as aims
-use Rattle.xa_server.specs.xa_caller.Caller.{Standing as Caller, AreRowsOf}
+use Rattle.xa_server.specs.xa_caller.Caller.{CallerState, AreRowsOf}
 use Rattle.xa_server.specs.xa_caller.Drafts.{Cargo, entry_behind}
 use Rattle.xa_server.proofs.xa_caller.Next.{found-all, same_kinds, row-service}
 use Rattle.xa_server.proofs.xa_caller.Sound.{sound_is_data}
@@ -152,7 +152,7 @@ found_seen d service found desk has version is named some =
       | inr above ↦ cc (sym (ap (λ b. if b then None else Some version) above) ∙ some)
     ]
 
-module _ (d : Domain) (queue : ℕ) (desk : Desk) (slot slot' : ServerSlot) (version : ℕ) (closing : Closing) (new : Caller) (fails : Fails version closing slot' slot new desk.caller) where
+module _ (d : Domain) (queue : ℕ) (desk : Desk) (slot slot' : ServerSlot) (version : ℕ) (closing : Closing) (new : CallerState) (fails : Fails version closing slot' slot new desk.caller) where
   fail_leads : IsDesk d desk → IsServing d queue slot desk → WasSeen d desk (BadForward version) → Leads d desk (record desk { caller = new })
   fail_leads is serving seen = end_leads d queue desk slot fails.finishes.ended (BadForward version) fails.finishes.stamp (max desk.caller.work.room 3) new is serving seen fails.finishes.ends fails.rest
 
@@ -160,12 +160,12 @@ module _ (d : Domain) (queue : ℕ) (desk : Desk) (slot slot' : ServerSlot) (ver
   fail_serves serving stands =
       let left = fails.finishes.left in
       let ended = fails.finishes.ends.left in
-      serving_on d queue desk slot slot' new serving stands (ap (λ (c : Caller). c.phase) fails.rest) (ap (λ (s : ServerSlot). s.server) left ∙ ap (λ (s : ServerSlot). s.server) ended) (ap (λ (s : ServerSlot). s.gone) left ∙ ap (λ (s : ServerSlot). s.gone) ended)
+      serving_on d queue desk slot slot' new serving stands (ap (λ (c : CallerState). c.phase) fails.rest) (ap (λ (s : ServerSlot). s.server) left ∙ ap (λ (s : ServerSlot). s.server) ended) (ap (λ (s : ServerSlot). s.gone) left ∙ ap (λ (s : ServerSlot). s.gone) ended)
       (hand_on d slot.hand slot'.hand (inl (ap (λ (s : ServerSlot). s.hand) left)) serving.hand)
 
 -- at a halt nothing was noted
-halt_leads : (d : Domain) (desk : Desk) (halt : Halt) (new : Caller) → new ≡ record desk.caller { work = new.work } → IsDesk d desk → HaltsWith 3 new.work desk.caller.work halt → Leads d desk (record desk { caller = new })
-halt_leads d desk halt new same is halted = subst (λ (c : Caller). Leads d desk (record desk { caller = c })) (sym same) (halted_leads d desk 3 new.work halt is halted)
+halt_leads : (d : Domain) (desk : Desk) (halt : Halt) (new : CallerState) → new ≡ record desk.caller { work = new.work } → IsDesk d desk → HaltsWith 3 new.work desk.caller.work halt → Leads d desk (record desk { caller = new })
+halt_leads d desk halt new same is halted = subst (λ (c : CallerState). Leads d desk (record desk { caller = c })) (sym same) (halted_leads d desk 3 new.work halt is halted)
 
 -- ---- a step at any queue
 
@@ -183,7 +183,7 @@ module _ {d : Domain} {at k : ℕ} {old new : Desk} {p p' : QueuePass} {last : S
 
 -- ---- forward
 
-module _ (d : Domain) (domain : IsDomain d) (desk : Desk) (is : IsDesk d desk) (service : List ℕ) (payload : Data) (found : is_name service ≡ true → HasFound d service desk.reader.found desk) (slot slot' : ServerSlot) (new : Caller) where
+module _ (d : Domain) (domain : IsDomain d) (desk : Desk) (is : IsDesk d desk) (service : List ℕ) (payload : Data) (found : is_name service ≡ true → HasFound d service desk.reader.found desk) (slot slot' : ServerSlot) (new : CallerState) where
   abbrev Found : FoundRows
   Found = desk.reader.found
 
@@ -213,7 +213,7 @@ module _ (d : Domain) (domain : IsDomain d) (desk : Desk) (is : IsDesk d desk) (
         let goes = passes.goes in
         let right : IsRight d.cells held = subst (λ h. IfSome h (IsRight d.cells)) passes.in_hand serving.hand in
         let its : IsTaken d queue t desk held = subst (λ h. IfSome h (IsTaken d queue t desk)) passes.in_hand taken in
-        subst (λ (c : Caller). IsPassing d queue entry event slot' (record desk { caller = c })) (sym passes.same)
+        subst (λ (c : CallerState). IsPassing d queue entry event slot' (record desk { caller = c })) (sym passes.same)
         (passing_by slot serving (ap (λ (s : ServerSlot). s.server) left) (ap (λ (s : ServerSlot). s.gone) left) service (found by.0) row (found-all accepting (Contains Found.rows) Found.rows row by.2 (All-contains_itself Found.rows)) hop payload held entry event
         (record { entered = goes.entered; forwards = goes.forwards ∙ ap (λ (s : ServerSlot). Forward (forwarded_by s held.request hop Found.version row desk.caller.priority payload)) (sym left) }) (subst (IsOnWay entry event slot') passes.same way)
         right (sound_is_data d.setup payload domain.configured by.1) (passes_found accepting Found.rows row by.2)
@@ -221,7 +221,7 @@ module _ (d : Domain) (domain : IsDomain d) (desk : Desk) (is : IsDesk d desk) (
         (λ past. may_forward held.request held.cargo.invocation (latest (is_entry_of held.request) past)) its.last))
 
   ways_lead : (queue : ℕ) → IsServing d queue slot desk → (way : Result Row ℕ) → So way → (forwarding : Forwarding) → ForwardsAs Found.version payload way forwarding slot' slot new desk.caller → Leads d desk (record desk { caller = new })
-  ways_lead queue serving (Ok row) by (On entry event) passes = subst (λ (c : Caller). Leads d desk (record desk { caller = c })) (sym passes.same) (same_leads d desk is)
+  ways_lead queue serving (Ok row) by (On entry event) passes = subst (λ (c : CallerState). Leads d desk (record desk { caller = c })) (sym passes.same) (same_leads d desk is)
   ways_lead queue serving (Ok row) by (Failed closing) none = absurd none
   ways_lead queue serving (Err version) by (On entry event) none = absurd none
   ways_lead queue serving (Err version) by (Failed closing) fails = fail_leads d queue desk slot slot' version closing new fails is serving (seen version by)
@@ -252,11 +252,11 @@ module _ (d : Domain) (domain : IsDomain d) (desk : Desk) (is : IsDesk d desk) (
   forward_seat (Ok forwarding) did stayed = by Way forwarding did
     where
       by : (way : Result Row ℕ) (forwarding : Forwarding) → ForwardsAs Found.version payload way forwarding slot' slot new desk.caller → new.seat ≡ desk.caller.seat
-      by (Ok row) (On entry event) passes = ap (λ (c : Caller). c.seat) passes.same
+      by (Ok row) (On entry event) passes = ap (λ (c : CallerState). c.seat) passes.same
       by (Ok row) (Failed closing) none = absurd none
       by (Err version) (On entry event) none = absurd none
-      by (Err version) (Failed closing) fails = ap (λ (c : Caller). c.seat) fails.rest
-  forward_seat (Err halt) did stayed = ap (λ (c : Caller). c.seat) stayed.1
+      by (Err version) (Failed closing) fails = ap (λ (c : CallerState). c.seat) fails.rest
+  forward_seat (Err halt) did stayed = ap (λ (c : CallerState). c.seat) stayed.1
 
 -- ---- pass
 
@@ -307,11 +307,11 @@ module _ {d : Domain} {queue : ℕ} {entry : Entry Cargo} {event : Event} {slot 
           let payload : Data = entry.cargo.invocation.payload in
           let above = more in
           let low = found.seen in
-          let least = ap (λ (c : Caller). c.least) goes.noted in
+          let least = ap (λ (c : CallerState). c.least) goes.noted in
           let x : Stamped = record { stamp = stamp; event = event } in
-          let grew : Grew old.caller.work new.caller.work (x ∷ []) = grew_one old.caller.work new.caller.work old.caller.work.room x (ap (λ (c : Caller). c.work) goes.noted) above (subst IsMade (sym passing.event_is) tt) in
+          let grew : Grew old.caller.work new.caller.work (x ∷ []) = grew_one old.caller.work new.caller.work old.caller.work.room x (ap (λ (c : CallerState). c.work) goes.noted) above (subst IsMade (sym passing.event_is) tt) in
           let number : caller_of d.clients slot.server.0 ≡ old.caller.work.id.0 = ap (λ n. caller_of n slot.server.0) (sym its.clients) ∙ passing.serving.stands.tables.worker.number in
-          noted_leads step maker stamp event put next grew (ap (home_of d.setup d.clients) passing.event_is ∙ ap QueueHome (sym to_is)) (ap (λ (c : Caller). c.seat) goes.noted) (ap (λ (c : Caller). c.work.stamp) goes.noted) (omega (arith, least, low))
+          noted_leads step maker stamp event put next grew (ap (home_of d.setup d.clients) passing.event_is ∙ ap QueueHome (sym to_is)) (ap (λ (c : CallerState). c.seat) goes.noted) (ap (λ (c : CallerState). c.work.stamp) goes.noted) (omega (arith, least, low))
           (λ whole on. subst (HasGrounds d whole old.caller.work.id.0 old.caller.work.own stamp) (sym passing.event_is) (record {
             saw = record {
               row = subst (λ (name : List ℕ). SawFront (entries_of whole BoardHome) stamp (RowStands d.setup Version name Its.queue.0 (RowAdmits d.setup false Its.routine payload))) (sym (row-service d.setup passing.service Its its_row))
@@ -334,7 +334,7 @@ module _ {d : Domain} {queue : ℕ} {entry : Entry Cargo} {event : Event} {slot 
           let made : Made = record { maker = maker; noted = record { stamp = stamp; event = event } } in
           record {
             stands = stands;
-            idle = ap (λ (c : Caller). c.phase) goes.noted ∙ serving.idle;
+            idle = ap (λ (c : CallerState). c.phase) goes.noted ∙ serving.idle;
             its = ap (λ s. queue_of d.setup s.0) server ∙ serving.its;
             some = serving.some;
             least = serving.least;
@@ -351,14 +351,14 @@ module _ {d : Domain} {queue : ℕ} {entry : Entry Cargo} {event : Event} {slot 
           let leads = looked_leads step visits caller in
           let serving = passing.serving in
           let way = passing.way in
-          let priority : new.caller.priority ≡ old.caller.priority = ap (λ (c : Caller). c.priority) caller in
+          let priority : new.caller.priority ≡ old.caller.priority = ap (λ (c : CallerState). c.priority) caller in
           let recent = passing.found.recent in
-          let least = ap (λ (c : Caller). c.least) caller in
+          let least = ap (λ (c : CallerState). c.least) caller in
           let tables : Tables slot (seeing last old.caller.work) = tables_seeing slot last old.caller.work way.tables in
           record {
             serving = record {
-              stands = subst (λ (c : Caller). Stands (holding entry slot) c.work) (sym caller) (record { tables = tables; hand = serving.stands.hand });
-              idle = ap (λ (c : Caller). c.phase) caller ∙ serving.idle;
+              stands = subst (λ (c : CallerState). Stands (holding entry slot) c.work) (sym caller) (record { tables = tables; hand = serving.stands.hand });
+              idle = ap (λ (c : CallerState). c.phase) caller ∙ serving.idle;
               its = serving.its;
               some = serving.some;
               least = serving.least;
@@ -374,7 +374,7 @@ module _ {d : Domain} {queue : ℕ} {entry : Entry Cargo} {event : Event} {slot 
             entry_is = passing.entry_is ∙ ap (λ asked. entry_behind entry.cargo.invocation.hop entry.request Its asked entry.cargo.invocation.payload entry.cargo.ticket) (sym priority);
             event_is = passing.event_is ∙ ap (λ (found : FoundRows). Forward (forwarded_by slot entry.request entry.cargo.invocation.hop found.version Its old.caller.priority entry.cargo.invocation.payload)) (sym reader)
                 ∙ ap (λ asked. Forward (forwarded_by slot entry.request entry.cargo.invocation.hop new.reader.found.version Its asked entry.cargo.invocation.payload)) (sym priority);
-            sent = itself_stays d old new leads queue (λ past. IsSomeAnd (latest (is_entry_of entry.request) past) (Forwardable entry.cargo.invocation.hop)) (ap (λ (c : Caller). c.work.id) caller) (ap (λ (c : Caller). c.work.own) caller) passing.sent;
+            sent = itself_stays d old new leads queue (λ past. IsSomeAnd (latest (is_entry_of entry.request) past) (Forwardable entry.cargo.invocation.hop)) (ap (λ (c : CallerState). c.work.id) caller) (ap (λ (c : CallerState). c.work.own) caller) passing.sent;
           }
 
   -- ---- pass again
@@ -396,7 +396,7 @@ module _ {d : Domain} {queue : ℕ} {entry : Entry Cargo} {event : Event} {slot 
 
     -- ---- fail to pass
 
-    module _ (slot' : ServerSlot) (new : Caller) where
+    module _ (slot' : ServerSlot) (new : CallerState) where
       abbrev FailsSo : Result Closing Halt → Type 0
       FailsSo r = IfOk r (λ closing. Fails Version closing slot' (holding entry slot) new old.caller)
 

@@ -27,7 +27,7 @@ use Rattle.xa_server.specs.xa_caller.declared.outcomes.Prepared.{Prepared as Mad
 use Rattle.xa_server.specs.xa_caller.declared.outcomes.Stop.{Stop}
 use Rattle.xa_server.specs.xa_caller.declared.outcomes.Stop.TheVariants as stops
 use Rattle.xa_server.specs.xa_caller.declared.phase.Draft.{Draft}
-use Rattle.xa_server.specs.xa_caller.Caller.{Standing as Caller}
+use Rattle.xa_server.specs.xa_caller.Caller.{CallerState}
 use Rattle.xa_server.specs.xa_caller.Changes.{Prepares, Refuses, StopsAs, Limits}
 use Rattle.xa_server.specs.xa_caller.Drafts.{accepted_by, entry_by}
 use Rattle.xa_server.specs.xa_caller.Phases.{just_in}
@@ -71,7 +71,7 @@ listed_shows d found service desk P has holds whole on stamp less =
     weaker_front (entries_of whole BoardHome) stamp (λ past. (found.version ≤ published past) × (listed_in d.setup past found.version service false ≡ found.rows)) (λ past. (found.version ≤ published past) × P (listed_in d.setup past found.version service false))
     (λ past shows. (shows.0, subst P (sym {A = List Row} shows.1) holds)) (has.listed whole on stamp less)
 
-module _ (d : Domain) (desk : Desk) (found : FoundRows) (op : ℕ) (ask : Ask) (is : IsDesk d desk) (reads : IsRead d desk) (idle : just_in desk.caller.phase ≡ None) (turn : op ≡ desk.caller.op + 1) (has : HasFound d ask.service found desk) (valid : is_invalid_call d.setup ask ≡ false) (new : Caller)
+module _ (d : Domain) (desk : Desk) (found : FoundRows) (op : ℕ) (ask : Ask) (is : IsDesk d desk) (reads : IsRead d desk) (idle : just_in desk.caller.phase ≡ None) (turn : op ≡ desk.caller.op + 1) (has : HasFound d ask.service found desk) (valid : is_invalid_call d.setup ask ≡ false) (new : CallerState)
     (seat : IsSeatOf d.cells new.seat) where
   abbrev Next : Desk
   Next = record desk { caller = new }
@@ -86,27 +86,27 @@ module _ (d : Domain) (desk : Desk) (found : FoundRows) (op : ℕ) (ask : Ask) (
     quiet =
         let made = makes.made in
         record {
-          grew = grew_none desk.caller.work new.work (max desk.caller.work.room 1) desk.caller.work.stamp (ap (λ (c : Caller). c.work) made) (omega arith);
+          grew = grew_none desk.caller.work new.work (max desk.caller.work.room 1) desk.caller.work.stamp (ap (λ (c : CallerState). c.work) made) (omega arith);
           seat = seat;
           takes = keeps_on (known desk.caller.seat) (known new.seat) (began_keeps d.cells _ desk.caller.seat new.seat makes.draft.asked.place prepared.entry.cargo.ticket makes.began);
-          least = ap (λ (c : Caller). c.least) made;
+          least = ap (λ (c : CallerState). c.least) made;
         }
 
     prepare_goes : GoesFor d op ask desk Next
-    prepare_goes = quiet_goes d desk new quiet is (ap (λ (c : Caller). c.work.stamp) makes.made) op ask
+    prepare_goes = quiet_goes d desk new quiet is (ap (λ (c : CallerState). c.work.stamp) makes.made) op ask
 
     prepare_aims : IsRight d.cells prepared.entry → IsAimed d found ask.payload prepared.entry prepared.event Next
     prepare_aims right =
         let its : makes.draft.asked.request ≡ request = ap (λ (t : Draft). t.asked.request) makes.drawn in
         let p : Row → Bool = λ row. is_accepted d.setup row.accepts (kind_of ask.payload) in
         let set = desk.caller.priority in
-        let still : new.priority ≡ set = ap (λ (c : Caller). c.priority) makes.made in
+        let still : new.priority ≡ set = ap (λ (c : CallerState). c.priority) makes.made in
         let its_op : makes.draft.op ≡ op = ap (λ (t : Draft). t.op) makes.drawn in
         record {
           draft = makes.draft;
-          prepared = ap (λ (c : Caller). c.phase) makes.made;
+          prepared = ap (λ (c : CallerState). c.phase) makes.made;
           drafted = makes.drafted;
-          turn = its_op ∙ turn ∙ ap (λ (c : Caller). c.op + 1) (sym makes.made);
+          turn = its_op ∙ turn ∙ ap (λ (c : CallerState). c.op + 1) (sym makes.made);
           version = ap (λ (t : Draft). t.version) makes.drawn;
           sound = sound_ask d.setup ask valid;
           row = makes.row;
@@ -133,8 +133,8 @@ module _ (d : Domain) (desk : Desk) (found : FoundRows) (op : ℕ) (ask : Ask) (
   -- with all cells in use
   by_limit : (stamp : Stamp) → Limits op stamp new desk.caller → GoesFor d op ask desk Next
   by_limit stamp limits =
-      let left : Caller = record desk.caller { work = record desk.caller.work { room = max desk.caller.work.room 1 }; seat = limits.seat } in
-      let same : IsSame d desk left = record { work = refl; seat = subst (IsSeatOf d.cells) (ap (λ (c : Caller). c.seat) limits.refuses.made) seat; takes = keeps_on (known desk.caller.seat) (known limits.seat) (full_keeps desk.caller.seat limits.seat limits.taken); least = refl } in
+      let left : CallerState = record desk.caller { work = record desk.caller.work { room = max desk.caller.work.room 1 }; seat = limits.seat } in
+      let same : IsSame d desk left = record { work = refl; seat = subst (IsSeatOf d.cells) (ap (λ (c : CallerState). c.seat) limits.refuses.made) seat; takes = keeps_on (known desk.caller.seat) (known limits.seat) (full_keeps desk.caller.seat limits.seat limits.taken); least = refl } in
       let goes = refuse_goes d desk left new op Limit (Cells desk.caller.seat.count) stamp is same limits.refuses tt tt (λ whole on. tt) (λ whole on. tt) reads idle in
       (goes.0, goes.1 ask (λ whole on. (valid, refl)))
 
@@ -150,18 +150,18 @@ module _ (d : Domain) (desk : Desk) (found : FoundRows) (op : ℕ) (ask : Ask) (
   prepared_goes (Ok prepared) makes stopped right =
       let goes = prepare_goes prepared makes in
       let recent = has.recent in
-      let least = ap (λ (c : Caller). c.least) makes.made in
+      let least = ap (λ (c : CallerState). c.least) makes.made in
       (goes, prepare_aims prepared makes right, found_stays d desk Next goes.0 ask.service found refl (omega (arith, recent, least)) has)
   prepared_goes (Err stop) makes stopped right = (stop_goes stop stopped, tt, tt)
 
 -- ---- a call that is invalid, or isn't
 
-module _ (d : Domain) (desk : Desk) (op : ℕ) (ask : Ask) (is : IsDesk d desk) (reads : IsRead d desk) (idle : just_in desk.caller.phase ≡ None) (new : Caller) where
+module _ (d : Domain) (desk : Desk) (op : ℕ) (ask : Ask) (is : IsDesk d desk) (reads : IsRead d desk) (idle : just_in desk.caller.phase ≡ None) (new : CallerState) where
   check_goes : (stop : Stop) → is_invalid_call d.setup ask ≡ true → ChecksAs op stop new desk.caller → GoesFor d op ask desk (record desk { caller = new })
   check_goes (stops.Refused stamp) invalid refuses = let goes = refuse_goes d desk desk.caller new op Inval Argument stamp is (same_as d desk is) refuses tt tt (λ whole on. tt) (λ whole on. tt) reads idle in (goes.0, goes.1 ask (λ whole on. invalid))
   check_goes (stops.Halt halt) invalid kept = kept_goes d desk op ask new is kept.1
 
   pub checked_goes : (r : Result (List ℕ) Stop) → OnOk r (new ≡ desk.caller) → IfErr r (λ stop. (is_invalid_call desk.caller.work.setup ask ≡ true) × ChecksAs op stop new desk.caller)
       → GoesFor d op ask desk (record desk { caller = new }) × OnOk r (record desk { caller = new } ≡ desk) × IfErr r (λ stop. ChecksAs op stop new desk.caller)
-  checked_goes (Ok name) kept refused = (kept_goes d desk op ask new is kept, ap (λ (c : Caller). record desk { caller = c }) kept, tt)
+  checked_goes (Ok name) kept refused = (kept_goes d desk op ask new is kept, ap (λ (c : CallerState). record desk { caller = c }) kept, tt)
   checked_goes (Err stop) kept refused = (check_goes stop (subst (λ s. is_invalid_call s ask ≡ true) is.setup refused.0) refused.1, tt, refused.1)

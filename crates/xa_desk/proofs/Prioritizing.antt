@@ -10,7 +10,7 @@ use Rattle.xa_server.specs.xa_worker.Seen.{past_in}
 use Rattle.xa_server.specs.xa_cell.Known.{known, IsSeatOf}
 use Rattle.xa_server.specs.xa_held.Joins.{changes_at}
 use Rattle.xa_server.specs.xa_worker.declared.work.Halt.{Halt}
-use Rattle.xa_server.specs.xa_caller.Caller.{Standing as Caller}
+use Rattle.xa_server.specs.xa_caller.Caller.{CallerState}
 use Rattle.xa_server.specs.xa_caller.Changes.{SetsPriority}
 use Rattle.xa_server.specs.xa_caller.Phases.{just_in}
 use Rattle.xa_desk.specs.declared.domain.Domain.{Domain}
@@ -22,7 +22,7 @@ use Rattle.xa_desk.proofs.Leading.{Grew, grew_one, next_leads}
 use Rattle.xa_desk.proofs.Seating.{TakesOn, takes_same}
 use Rattle.xa_desk.proofs.Stopping.{same_leads}
 
-module _ (d : Domain) (desk : Desk) (op : ℕ) (absolute : Bool) (amount : ℤ) (is : IsDesk d desk) (reads : IsRead d desk) (none : just_in desk.caller.phase ≡ None) (new : Caller) where
+module _ (d : Domain) (desk : Desk) (op : ℕ) (absolute : Bool) (amount : ℤ) (is : IsDesk d desk) (reads : IsRead d desk) (none : just_in desk.caller.phase ≡ None) (new : CallerState) where
   abbrev Next : Desk
   Next = record desk { caller = new }
 
@@ -31,13 +31,13 @@ module _ (d : Domain) (desk : Desk) (op : ℕ) (absolute : Bool) (amount : ℤ) 
     One = record { stamp = stamp; event = Priority (record { by = desk.caller.work.id; op = op; absolute = absolute; amount = amount }) }
 
     grew : Grew desk.caller.work new.work (One ∷ [])
-    grew = let next = sets.next in grew_one desk.caller.work new.work desk.caller.work.room One (ap (λ (c : Caller). c.work) sets.made) (omega (arith, next)) tt
+    grew = let next = sets.next in grew_one desk.caller.work new.work desk.caller.work.room One (ap (λ (c : CallerState). c.work) sets.made) (omega (arith, next)) tt
 
     set_leads : Leads d desk Next
     set_leads =
         let made = sets.made in
-        next_leads d desk new One grew (ap (λ (c : Caller). c.work.stamp) made) refl (subst (λ (c : Caller). IsSeatOf d.cells c.seat) (sym made) is.seat) (subst (λ (c : Caller). TakesOn (known desk.caller.seat) (known c.seat)) (sym made) (takes_same (known desk.caller.seat))) tt
-        (subst (λ (c : Caller). c.least ≤ published (past_in (changes_at (board_page desk).seen))) (sym made) is.least) is sets.next
+        next_leads d desk new One grew (ap (λ (c : CallerState). c.work.stamp) made) refl (subst (λ (c : CallerState). IsSeatOf d.cells c.seat) (sym made) is.seat) (subst (λ (c : CallerState). TakesOn (known desk.caller.seat) (known c.seat)) (sym made) (takes_same (known desk.caller.seat))) tt
+        (subst (λ (c : CallerState). c.least ≤ published (past_in (changes_at (board_page desk).seen))) (sym made) is.least) is sets.next
         (λ whole on. record { saw = tt; told = tt; clears = tt })
 
     set_fits : FitsOp d op (PriorityOp absolute amount) desk Next
@@ -46,5 +46,5 @@ module _ (d : Domain) (desk : Desk) (op : ℕ) (absolute : Bool) (amount : ℤ) 
   pub set_goes : (r : Result Stamp Halt) → IfOk r (λ stamp. SetsPriority op absolute amount stamp new desk.caller) → OnErr r (new ≡ desk.caller) → Leads d desk Next × FitsOp d op (PriorityOp absolute amount) desk Next × OnErr r (Next ≡ desk)
   set_goes (Ok stamp) sets kept = (set_leads stamp sets, set_fits stamp sets, tt)
   set_goes (Err halt) sets kept =
-      let still = ap (λ (c : Caller). record desk { caller = c }) kept in
+      let still = ap (λ (c : CallerState). record desk { caller = c }) kept in
       (subst (Leads d desk) (sym still) (same_leads d desk is), subst (FitsOp d op (PriorityOp absolute amount) desk) (sym still) (λ ops its fits. fits), still)

@@ -15,8 +15,8 @@ use Rattle.xa_server.specs.xa_worker.Calls.{AskRefusedOwn}
 use Rattle.xa_server.specs.xa_worker.Seen.{past_in, SawEvidence, ToldEvidence}
 use Rattle.xa_server.specs.xa_cell.Known.{known, IsSeatOf}
 use Rattle.xa_server.specs.xa_held.Joins.{changes_at}
-use Rattle.xa_server.specs.xa_worker.Work.{Standing as Working}
-use Rattle.xa_server.specs.xa_caller.Caller.{Standing as Caller}
+use Rattle.xa_server.specs.xa_worker.Work.{WorkState}
+use Rattle.xa_server.specs.xa_caller.Caller.{CallerState}
 use Rattle.xa_server.specs.xa_caller.Changes.{refused, Refuses}
 use Rattle.xa_server.specs.xa_caller.Phases.{just_in, least_by}
 use Rattle.xa_desk.specs.declared.domain.Domain.{Domain}
@@ -34,7 +34,7 @@ least_low None least seen low some = low
 least_low (Some version) least seen low some = some
 
 -- the caller as it stood when its call was refused, of the same worker
-pub record IsSame (d : Domain) (desk : Desk) (left : Caller) : Type 0 where
+pub record IsSame (d : Domain) (desk : Desk) (left : CallerState) : Type 0 where
   pub work : left.work ≡ record desk.caller.work { room = left.work.room }
   pub seat : IsSeatOf d.cells left.seat
   pub takes : TakesOn (known desk.caller.seat) (known left.seat)
@@ -43,19 +43,19 @@ pub record IsSame (d : Domain) (desk : Desk) (left : Caller) : Type 0 where
 pub same_as : (d : Domain) (desk : Desk) → IsDesk d desk → IsSame d desk desk.caller
 same_as d desk is = record { work = refl; seat = is.seat; takes = takes_same (known desk.caller.seat); least = refl }
 
-module _ (d : Domain) (desk : Desk) (left new : Caller) (op : ℕ) (fault : Fault) (evidence : Evidence) (stamp : Stamp) (is : IsDesk d desk) (same : IsSame d desk left) (refuses : Refuses op fault evidence stamp new left)
+module _ (d : Domain) (desk : Desk) (left new : CallerState) (op : ℕ) (fault : Fault) (evidence : Evidence) (stamp : Stamp) (is : IsDesk d desk) (same : IsSame d desk left) (refuses : Refuses op fault evidence stamp new left)
     (shown : IfSome (version_in evidence) (λ v. v ≤ published (past_in (changes_at (board_page desk).seen)))) (kind : IsRefusal fault evidence) where
   abbrev One : Stamped
   One = record { stamp = stamp; event = refused op fault evidence left }
 
   stood : left.work.stamp.0 ≡ desk.caller.work.stamp.0
-  stood = ap (λ (w : Working). w.stamp.0) same.work
+  stood = ap (λ (w : WorkState). w.stamp.0) same.work
 
   next : stamp.0 ≡ desk.caller.work.stamp.0 + 1
   next = let above = refuses.next in omega (arith, above, stood)
 
   grew : Grew desk.caller.work new.work (One ∷ [])
-  grew = grew_one desk.caller.work new.work left.work.room One (ap (λ (c : Caller). c.work) refuses.made ∙ ap (λ (w : Working). record w { stamp = stamp; own = w.own ++ One ∷ []; room = left.work.room }) same.work) (omega (arith, next)) kind
+  grew = grew_one desk.caller.work new.work left.work.room One (ap (λ (c : CallerState). c.work) refuses.made ∙ ap (λ (w : WorkState). record w { stamp = stamp; own = w.own ++ One ∷ []; room = left.work.room }) same.work) (omega (arith, next)) kind
 
   module _ (saw : (whole : Whole) → GoesOn d whole desk → SawEvidence d.setup d.clients (entries_of whole) stamp left.work.id evidence (past_in desk.caller.work.own))
       (told : (whole : Whole) → GoesOn d whole desk → ToldEvidence d.setup d.clients (entries_of whole) stamp left.work.id evidence (its_events d desk)) where
@@ -65,8 +65,8 @@ module _ (d : Domain) (desk : Desk) (left new : Caller) (op : ℕ) (fault : Faul
         let low = is.least in
         let stays = same.least in
         let shows_least : least_by (version_in evidence) left.least ≤ published (past_in (changes_at (board_page desk).seen)) = least_low (version_in evidence) left.least (published (past_in (changes_at (board_page desk).seen))) (omega (arith, low, stays)) shown in
-        next_leads d desk new One grew (ap (λ (c : Caller). c.work.stamp) made) (ap (λ (w : Working). CallerHome w.id.0) same.work) (subst (λ (c : Caller). IsSeatOf d.cells c.seat) (sym made) same.seat) (subst (λ (c : Caller). TakesOn (known desk.caller.seat) (known c.seat)) (sym made) same.takes) tt
-        (subst (λ (c : Caller). c.least ≤ published (past_in (changes_at (board_page desk).seen))) (sym made) shows_least) is next
+        next_leads d desk new One grew (ap (λ (c : CallerState). c.work.stamp) made) (ap (λ (w : WorkState). CallerHome w.id.0) same.work) (subst (λ (c : CallerState). IsSeatOf d.cells c.seat) (sym made) same.seat) (subst (λ (c : CallerState). TakesOn (known desk.caller.seat) (known c.seat)) (sym made) same.takes) tt
+        (subst (λ (c : CallerState). c.least ≤ published (past_in (changes_at (board_page desk).seen))) (sym made) shows_least) is next
         (λ whole on. record { saw = saw whole on; told = told whole on; clears = tt })
 
     -- and that fits a call that may be refused so

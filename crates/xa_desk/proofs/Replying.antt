@@ -24,11 +24,11 @@ use Rattle.xa_server.specs.xa_cell.Growing.{Keeps, TakesMore}
 use Rattle.xa_server.specs.xa_cell.Known.{known, IsSeatOf}
 use Rattle.xa_server.specs.xa_cell.Views.{at, fill}
 use Rattle.xa_server.proofs.xa_cell.Growing.{looked_keeps, more_behind}
-use Rattle.xa_server.specs.xa_worker.Work.{seeing, Standing as Working}
+use Rattle.xa_server.specs.xa_worker.Work.{seeing, WorkState}
 use Rattle.xa_server.specs.xa_caller.declared.cargo.Filling.{Filling}
 use Rattle.xa_server.specs.xa_caller.declared.outcomes.Step.{Step}
 use Rattle.xa_server.specs.xa_caller.declared.outcomes.Step.TheVariants as steps
-use Rattle.xa_server.specs.xa_caller.Caller.{Standing as Caller}
+use Rattle.xa_server.specs.xa_caller.Caller.{CallerState}
 use Rattle.xa_server.specs.xa_caller.Changes.{Answers, StepsAs}
 use Rattle.xa_server.specs.xa_caller.Phases.{just_in}
 use Rattle.xa_server.specs.Fillings.{WasTaken, EndsAt, HasEnd}
@@ -53,7 +53,7 @@ told_by : (expect : Option Kind) (answer reply : Reply) (how : Option Settlement
 told_by expect answer reply None is tells = tells
 told_by expect answer reply (Some settlement) is tells = is ∙ ap (answer_to expect) tells
 
-module _ (d : Domain) (desk : Desk) (new : Caller) (is : IsDesk d desk) (its : IsSeatOf d.cells new.seat) where
+module _ (d : Domain) (desk : Desk) (new : CallerState) (is : IsDesk d desk) (its : IsSeatOf d.cells new.seat) where
   abbrev Next : Desk
   Next = record desk { caller = new }
 
@@ -83,7 +83,7 @@ module _ (d : Domain) (desk : Desk) (new : Caller) (is : IsDesk d desk) (its : I
     One = record { stamp = stamp; event = Answer (record { by = desk.caller.work.id; op = desk.caller.op; request = answers.sent.request; answer = answer_to expect answers.reply }) }
 
     grew : Grew desk.caller.work new.work (One ∷ [])
-    grew = let next = answers.noted.next in grew_one desk.caller.work new.work (desk.caller.work.room - 1) One (ap (λ (c : Caller). c.work) answers.noted.made) (omega (arith, next)) tt
+    grew = let next = answers.noted.next in grew_one desk.caller.work new.work (desk.caller.work.room - 1) One (ap (λ (c : CallerState). c.work) answers.noted.made) (omega (arith, next)) tt
 
     told_so : (P : Event → Type 0) → ((end : Stamped) → IsSomeAnd (settlement_in answers.sent.request end.event) (λ settlement. answers.reply ≡ reply_of settlement) → P end.event) → (whole : Whole) → GoesOn d whole Next → (home : Home) × SawEntry (entries_of whole home) stamp P
     told_so P holds whole on =
@@ -118,8 +118,8 @@ module _ (d : Domain) (desk : Desk) (new : Caller) (is : IsDesk d desk) (its : I
         let next = answers.noted.next in
         let booted = is.booted in
         let low = is.least in
-        let least = ap (λ (c : Caller). c.least) made in
-        own_leads d desk new One grew (ap (λ (c : Caller). c.work.stamp) made) refl its (takes answers.sent.place.cell answers.filling answers.took) was_taken (omega (arith, low, least)) is (λ whole on back.
+        let least = ap (λ (c : CallerState). c.least) made in
+        own_leads d desk new One grew (ap (λ (c : CallerState). c.work.stamp) made) refl its (takes answers.sent.place.cell answers.filling answers.took) was_taken (omega (arith, low, least)) is (λ whole on back.
         record {
           grounds = record {
             saw = tt;
@@ -148,7 +148,7 @@ module _ (d : Domain) (desk : Desk) (new : Caller) (is : IsDesk d desk) (its : I
       → ((whole : Whole) → GoesOn d whole Next → GoesOn d whole desk → IsKnown whole seen) → Goes expect
   silent expect seen room work least takes later is_known =
       let grew = grew_none desk.caller.work new.work room seen work later in
-      let leads = quiet_leads d desk new (record { grew = grew; seat = its; takes = takes; least = least }) is (λ whole on back. subst (IsKnown whole) (sym (ap (λ (w : Working). w.stamp) work)) (is_known whole on back)) in
+      let leads = quiet_leads d desk new (record { grew = grew; seat = its; takes = takes; least = least }) is (λ whole on back. subst (IsKnown whole) (sym (ap (λ (w : WorkState). w.stamp) work)) (is_known whole on back)) in
       (leads, λ reads ask same. no_more_fits d desk Next leads grew desk.caller.op ask)
 
   pub step_goes : (expect : Option Kind) (step : Step) → StepsAs expect step new desk.caller → Goes expect
@@ -156,12 +156,12 @@ module _ (d : Domain) (desk : Desk) (new : Caller) (is : IsDesk d desk) (its : I
   step_goes expect steps.Wait waits =
       let made = waits.3 in
       let kept = keeps_on (known desk.caller.seat) (known new.seat) (subst (Keeps (known desk.caller.seat)) (sym waits.2) (looked_keeps waits.0.place.cell 1 (known desk.caller.seat))) in
-      silent expect desk.caller.work.stamp desk.caller.work.room (ap (λ (c : Caller). c.work) made) (ap (λ (c : Caller). c.least) made) kept (omega arith) (λ whole on back. is.known_stamp whole back)
+      silent expect desk.caller.work.stamp desk.caller.work.room (ap (λ (c : CallerState). c.work) made) (ap (λ (c : CallerState). c.least) made) kept (omega arith) (λ whole on back. is.known_stamp whole back)
   step_goes expect (steps.Halt halt) loses =
       let made = loses.made in
       let stamp = loses.filling.stamp in
-      silent expect (seeing stamp desk.caller.work).stamp desk.caller.work.room (ap (λ (c : Caller). c.work) made) (ap (λ (c : Caller). c.least) made) (takes loses.sent.place.cell loses.filling loses.took) (omega arith)
+      silent expect (seeing stamp desk.caller.work).stamp desk.caller.work.room (ap (λ (c : CallerState). c.work) made) (ap (λ (c : CallerState). c.least) made) (takes loses.sent.place.cell loses.filling loses.took) (omega arith)
       (λ whole on back. larger_known whole desk.caller.work.stamp stamp (is.known_stamp whole back) (stamp_known loses.sent.place.cell loses.filling loses.took loses.reply loses.says whole on))
   step_goes expect steps.Halted abandons =
       let made = abandons.made in
-      silent expect desk.caller.work.stamp desk.caller.work.room (ap (λ (c : Caller). c.work) made) (ap (λ (c : Caller). c.least) made) (takes abandons.sent.place.cell abandons.filling abandons.took) (omega arith) (λ whole on back. is.known_stamp whole back)
+      silent expect desk.caller.work.stamp desk.caller.work.room (ap (λ (c : CallerState). c.work) made) (ap (λ (c : CallerState). c.least) made) (takes abandons.sent.place.cell abandons.filling abandons.took) (omega arith) (λ whole on back. is.known_stamp whole back)

@@ -38,7 +38,7 @@ use Rattle.xa_server.specs.xa_held.Visits.{Visits}
 use Rattle.xa_server.proofs.xa_held.Front.{knows_events}
 use Rattle.xa_server.proofs.xa_held.Seen.{events_more}
 use Rattle.xa_server.specs.xa_caller.declared.cargo.Filling.{Filling}
-use Rattle.xa_server.specs.xa_caller.Caller.{Standing as Caller}
+use Rattle.xa_server.specs.xa_caller.Caller.{CallerState}
 use Rattle.xa_server.specs.xa_caller.Drafts.{Cargo}
 use Rattle.xa_server.specs.xa_caller.Serving.{noted_off}
 use Rattle.xa_server.specs.declared.slot.Last.TheVariants.{Nothing as NoLast}
@@ -107,7 +107,7 @@ module _ {d : Domain} {queue k : ℕ} {desk new : Desk} {p p' : QueuePass} {last
       let is_own : Event → Bool = is_own_at d.setup d.clients id queue in
       let past : past_in (events_at (page_of p').seen) ≡ Take Its ∷ past_in Front = ap past_in stands_at_end ∙ past_in-append Front (record { stamp = out.noted.stamp; event = Take Its } ∷ []) in
       let some = its_some serving in
-      let same = ap (λ (c : Caller). c.work.id.0) caller in
+      let same = ap (λ (c : CallerState). c.work.id.0) caller in
       let knows = knows_one took (ap (λ (i : CallerId). i.0) makes ∙ sym (its_pass step.has step.is).maker) in
       front_there is now (λ past. IfNew d.setup queue Sent past × (count is_own past ≡ count is_own (past_in new.caller.work.own)))
       (λ whole on. (subst (IfNew d.setup queue Sent) (sym {A = List Event} past) (λ news. sent_last news.1), own_seen is now took (omega (arith, some, same)) (knows_events (page_of p') took.new knows) whole on))

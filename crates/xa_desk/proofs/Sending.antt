@@ -44,7 +44,7 @@ use Rattle.xa_server.specs.xa_caller.declared.cargo.Filling.{Filling}
 use Rattle.xa_server.specs.xa_caller.declared.phase.Draft.{Draft}
 use Rattle.xa_server.specs.xa_caller.declared.phase.Phase.{Phase}
 use Rattle.xa_server.specs.xa_caller.declared.phase.Phase.TheVariants.{Prepared}
-use Rattle.xa_server.specs.xa_caller.Caller.{Standing as Caller, MayCall}
+use Rattle.xa_server.specs.xa_caller.Caller.{CallerState, MayCall}
 use Rattle.xa_server.specs.xa_caller.Changes.{Sends}
 use Rattle.xa_server.specs.xa_caller.Drafts.{Cargo, entry_by}
 use Rattle.xa_server.specs.xa_caller.Phases.{just_in}
@@ -120,14 +120,14 @@ module _ {d : Domain} {found : FoundRows} (ask : Ask) {old : Desk} {entry : Entr
       grew =
           let said : sends.draft.event.value ≡ event = ap (λ (draft : Draft). draft.event.value) same ∙ aimed.drafted in
           grew_one old.caller.work new.caller.work old.caller.work.room Its
-          (ap (λ (c : Caller). c.work) sends.made ∙ ap (λ (e : Event). record old.caller.work { stamp = stamp; own = old.caller.work.own ++ record { stamp = stamp; event = e } ∷ [] }) said) (later step maker stamp event put next) (subst IsMade (sym aimed.event_is) refl)
+          (ap (λ (c : CallerState). c.work) sends.made ∙ ap (λ (e : Event). record old.caller.work { stamp = stamp; own = old.caller.work.own ++ record { stamp = stamp; event = e } ∷ [] }) said) (later step maker stamp event put next) (subst IsMade (sym aimed.event_is) refl)
 
       pub sent_leads : Leads d old new
       sent_leads =
-          let least = ap (λ (c : Caller). c.least) sends.made ∙ ap (λ (draft : Draft). draft.version) same ∙ aimed.version in
+          let least = ap (λ (c : CallerState). c.least) sends.made ∙ ap (λ (draft : Draft). draft.version) same ∙ aimed.version in
           let seen = has.seen in
           let more = later step maker stamp event put next in
-          noted_leads step maker stamp event put next grew (ap (home_of d.setup d.clients) aimed.event_is ∙ ap QueueHome (sym queue_is)) (ap (λ (c : Caller). c.seat) sends.made) (ap (λ (c : Caller). c.work.stamp) sends.made) (omega (arith, least, seen))
+          noted_leads step maker stamp event put next grew (ap (home_of d.setup d.clients) aimed.event_is ∙ ap QueueHome (sym queue_is)) (ap (λ (c : CallerState). c.seat) sends.made) (ap (λ (c : CallerState). c.work.stamp) sends.made) (omega (arith, least, seen))
           (λ whole on. subst (HasGrounds d whole old.caller.work.id.0 old.caller.work.own stamp) (sym aimed.event_is) (record {
             saw = subst (λ (name : List ℕ). SawFront (entries_of whole BoardHome) stamp (RowStands d.setup found.version name aimed.row.queue.0 (RowAdmits d.setup false aimed.row.routine ask.payload))) (sym (row-service d.setup ask.service aimed.row its))
                 (All-contains (λ (row : Row). is_accepted d.setup row.accepts (kind_of ask.payload) ≡ true → SawOnBoard d old (RowStands d.setup found.version ask.service row.queue.0 (RowAdmits d.setup false row.routine ask.payload))) found.rows aimed.row (has.stand ask.payload) aimed.among aimed.accepts whole on stamp more);
@@ -152,7 +152,7 @@ module _ {d : Domain} {queue k : ℕ} {old new : Desk} {p p' : QueuePass} {last 
   own_at : (P : List Event → Type 0) → IfNew d.setup queue P (past_in (events_at (page_of p').seen)) → SawItsOwnAt d queue new P
   own_at P holds =
       let is_own : Event → Bool = is_own_at d.setup d.clients new.caller.work.id.0 queue in
-      let same = ap (λ (c : Caller). c.work.id.0) caller in
+      let same = ap (λ (c : CallerState). c.work.id.0) caller in
       front_there is now (λ past. IfNew d.setup queue P past × (count is_own past ≡ count is_own (past_in new.caller.work.own)))
       (λ whole on. (holds, own_seen is now visits (omega (arith, some, same)) (knows_events (page_of p') visits.new (knows_still visits visits.how.0)) whole on))
 

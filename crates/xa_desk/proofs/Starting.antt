@@ -10,12 +10,12 @@ use Rattle.xa_server.specs.xa_events.State.{caller_of}
 use Rattle.xa_server.specs.xa_stamp.declared.home.Stamped.{Stamped}
 use Rattle.xa_server.specs.xa_worker.Seen.{SawFront}
 use Rattle.xa_server.specs.xa_worker.declared.work.Halt.{Halt}
-use Rattle.xa_server.specs.xa_worker.Work.{Standing as Working}
+use Rattle.xa_server.specs.xa_worker.Work.{WorkState}
 use Rattle.xa_server.specs.declared.slot.ServerSlot.{ServerSlot}
 use Rattle.xa_server.specs.Changes.{next_life}
 use Rattle.xa_server.specs.Noting.{HaltsWith}
 use Rattle.xa_server.specs.Served.{StarterShows, Tries, Halts}
-use Rattle.xa_server.specs.xa_pipe.Standing.{Standing as Life}
+use Rattle.xa_server.specs.xa_pipe.Standing.{LifeState}
 use Rattle.xa_desk.specs.declared.domain.Domain.{Domain}
 use Rattle.xa_desk.specs.declared.desk.Desk.{Desk}
 use Rattle.xa_desk.specs.Whole.{Whole, entries_of}
@@ -30,7 +30,7 @@ unfolding is_shown
 shown_at_first whole stamp tick zero = subst (λ t. SawFront (entries_of whole ClockHome) stamp (λ past. is_shown t past ≡ true)) (sym zero)
     (record { front = []; stands = ([], refl); before = All-nil (λ (noted : Stamped). noted.stamp.0 < stamp.0); shows = refl })
 
-pub start_leads : (d : Domain) (queue : ℕ) (desk : Desk) (slot slot' : ServerSlot) (name : List ℕ) (tick : ℕ) (shows' shows : StarterShows) (new : Working) (r : Result (Option Life) Halt) → IsDesk d desk → IsServing d queue slot desk → tick ≡ 0
+pub start_leads : (d : Domain) (queue : ℕ) (desk : Desk) (slot slot' : ServerSlot) (name : List ℕ) (tick : ℕ) (shows' shows : StarterShows) (new : WorkState) (r : Result (Option LifeState) Halt) → IsDesk d desk → IsServing d queue slot desk → tick ≡ 0
     → IfOk r (λ life. Tries name tick life slot' slot new desk.caller.work) → IfErr r (Halts name (next_life slot) shows' shows new desk.caller.work) → Leads d desk (reworked desk new)
 start_leads d queue desk slot slot' name tick shows' shows new (Ok (Some life)) is serving zero tries halts =
     let noted = tries.starts.noted in

@@ -26,8 +26,8 @@ use Rattle.xa_desk.specs.Visit.{IsAt}
 use Rattle.xa_desk.proofs.Entering.{setting_here}
 use Rattle.xa_server.specs.xa_held.Visits.{Visits}
 use Rattle.xa_server.proofs.xa_held.Front.{note}
-use Rattle.xa_server.specs.xa_worker.Work.{Standing as Working, seeing}
-use Rattle.xa_server.specs.xa_caller.Caller.{Standing as Caller}
+use Rattle.xa_server.specs.xa_worker.Work.{WorkState, seeing}
+use Rattle.xa_server.specs.xa_caller.Caller.{CallerState}
 use Rattle.xa_server.specs.xa_caller.declared.cargo.Filling.{Filling}
 use Rattle.xa_server.specs.xa_caller.Drafts.{Cargo}
 use Rattle.xa_server.specs.xa_caller.Serving.{noted_off}
@@ -51,7 +51,7 @@ pub its_some : {d : Domain} {queue : ℕ} {desk : Desk} {slot : ServerSlot} → 
 its_some {d} {queue} {desk} {slot} serving = let number = serving.stands.tables.worker.number in let some = has_number d.setup slot.server.0 queue serving.its serving.some in omega (arith, number, some)
 
 -- the slot's tables stand also where its worker saw a stamp
-pub tables_seeing : (slot : ServerSlot) (last : Stamp) (w : Working) → Tables slot w → Tables slot (seeing last w)
+pub tables_seeing : (slot : ServerSlot) (last : Stamp) (w : WorkState) → Tables slot w → Tables slot (seeing last w)
 tables_seeing slot last w tables = let few = tables.few in record {
   worker = record { number = tables.worker.number; rule = tables.worker.rule; none = tables.worker.none; unconnected = tables.worker.unconnected };
   reads = tables.reads;
@@ -59,14 +59,14 @@ tables_seeing slot last w tables = let few = tables.few in record {
   ready = tables.ready;
 }
 
-pub stands_seeing : (slot : ServerSlot) (last : Stamp) (w : Working) → Stands slot w → Stands slot (seeing last w)
+pub stands_seeing : (slot : ServerSlot) (last : Stamp) (w : WorkState) → Stands slot w → Stands slot (seeing last w)
 stands_seeing slot last w stands = record { tables = tables_seeing slot last w stands.tables; hand = stands.hand }
 
 -- a look at the board leaves what its worker has
 pub looked_serves : (d : Domain) (queue : ℕ) (slot : ServerSlot) (old new : Desk) → SeesStamp old.caller new.caller → new.queues.items ≡ old.queues.items → IsServing d queue slot old → IsServing d queue slot new
 looked_serves d queue slot old new sees queues serving = record {
-  stands = subst (λ (c : Caller). Stands slot c.work) (sym sees.1) (stands_seeing slot sees.0 old.caller.work serving.stands);
-  idle = ap (λ (c : Caller). c.phase) sees.1 ∙ serving.idle;
+  stands = subst (λ (c : CallerState). Stands slot c.work) (sym sees.1) (stands_seeing slot sees.0 old.caller.work serving.stands);
+  idle = ap (λ (c : CallerState). c.phase) sees.1 ∙ serving.idle;
   its = serving.its;
   some = serving.some;
   least = serving.least;
@@ -115,7 +115,7 @@ module _ {d : Domain} {queue k : ℕ} {desk new : Desk} {p p' : QueuePass} {last
   -- it saw the queue's last stamp, and noted nothing
   module _ {How : Kept Filling → Kept Filling → Type 0} (visits : Visits (page_of p) (page_of p') [] How) (caller : new.caller ≡ record desk.caller { work = seeing last desk.caller.work }) where
     pub looks_serve : IsServing d queue slot new
-    looks_serve = serving_visits visits slot (λ left. (left, All-nil (IsOther slot.server))) (subst (λ (c : Caller). Stands slot c.work) (sym caller) (stands_seeing slot last desk.caller.work serving.stands)) (ap (λ (c : Caller). c.phase) caller) refl serving.hand
+    looks_serve = serving_visits visits slot (λ left. (left, All-nil (IsOther slot.server))) (subst (λ (c : CallerState). Stands slot c.work) (sym caller) (stands_seeing slot last desk.caller.work serving.stands)) (ap (λ (c : CallerState). c.phase) caller) refl serving.hand
 
     -- a queue that was found closed, with none that waits, was seen so
     pub looks_shut : visits.new.queue.waiting ≡ [] → visits.new.queue.closed ≡ true → SawAtQueue d queue new (IsShut d.setup queue)
@@ -141,4 +141,4 @@ module _ {d : Domain} {queue k : ℕ} {desk new : Desk} {p p' : QueuePass} {last
       let made : Made = record { maker = maker; noted = record { stamp = out.stamp; event = out.event.value } } in
       serving_visits visits slot'
       (λ left. let other = others left in (other.0, All-cons (IsOther slot.server) (By made) [] (subst (λ (x : Event). has_server slot.server (gives_up x) ≡ false) (sym event) other.1) (All-nil (IsOther slot.server))))
-      stands (ap (λ (c : Caller). c.phase) caller) server hand
+      stands (ap (λ (c : CallerState). c.phase) caller) server hand

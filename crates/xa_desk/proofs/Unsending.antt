@@ -38,7 +38,7 @@ use Rattle.xa_server.specs.xa_caller.declared.outcomes.Why.TheVariants as reason
 use Rattle.xa_server.specs.xa_caller.declared.phase.Draft.{Draft}
 use Rattle.xa_server.specs.xa_caller.declared.phase.Phase.TheVariants.{Idle}
 use Rattle.xa_server.specs.xa_caller.Drafts.{Cargo}
-use Rattle.xa_server.specs.xa_caller.Caller.{Standing as Caller}
+use Rattle.xa_server.specs.xa_caller.Caller.{CallerState}
 use Rattle.xa_server.specs.xa_caller.Changes.{Refuses}
 use Rattle.xa_server.specs.xa_caller.Phases.{just_in, IsPreparedAt}
 use Rattle.xa_server.specs.xa_caller.Unsent.{MayBe, UnsentAs, EndsAs, refused_for, other_step}
@@ -56,12 +56,12 @@ use Rattle.xa_desk.proofs.Refusing.{IsSame, refuse_goes}
 use Rattle.xa_desk.proofs.Sending.{same_draft}
 use Rattle.xa_desk.proofs.Showing.{count_theirs}
 
-module _ (d : Domain) (desk : Desk) (found : FoundRows) (cell : ℕ) (is : IsDesk d desk) (reads : IsRead d desk) (has : (service : List ℕ) × HasFound d service found desk) (draft : Draft) (version : draft.version ≡ found.version) (idle : just_in desk.caller.phase ≡ None) (new : Caller)
+module _ (d : Domain) (desk : Desk) (found : FoundRows) (cell : ℕ) (is : IsDesk d desk) (reads : IsRead d desk) (has : (service : List ℕ) × HasFound d service found desk) (draft : Draft) (version : draft.version ≡ found.version) (idle : just_in desk.caller.phase ≡ None) (new : CallerState)
     (seat : Seat Filling) (its : IsSeatOf d.cells seat) (back : known seat ≡ withdrawn cell (known desk.caller.seat)) where
   abbrev Next : Desk
   Next = record desk { caller = new }
 
-  abbrev Left : Caller
+  abbrev Left : CallerState
   Left = record desk.caller { seat = seat; phase = Idle }
 
   -- it goes on, and what it noted fits the call whose request it was
@@ -78,7 +78,7 @@ module _ (d : Domain) (desk : Desk) (found : FoundRows) (cell : ℕ) (is : IsDes
   left_goes : (blocks : Bool) → new ≡ Left → Goes blocks
   left_goes blocks left =
       let quiet : IsQuiet d desk new = subst (IsQuiet d desk) (sym left) (record { grew = grew_none desk.caller.work desk.caller.work desk.caller.work.room desk.caller.work.stamp refl (omega arith); seat = its; takes = takes; least = refl }) in
-      let leads = calm_leads d desk new quiet is (ap (λ (c : Caller). c.work.stamp) left) in
+      let leads = calm_leads d desk new quiet is (ap (λ (c : CallerState). c.work.stamp) left) in
       (leads, λ ask valid same_blocks its_found. no_more_fits d desk Next leads quiet.grew draft.op ask)
 
   -- each queue was shut
@@ -155,14 +155,14 @@ may_be d desk found is (reasons.Full queue n) reason = (reason.filled.0, subst (
 may_be d desk found is (reasons.Halt halt) reason = tt
 
 -- the caller has the seat that was left, whatever came then
-seat_left : (op : ℕ) (refusal : Option (Fault × Evidence)) (other step : Step) (new left : Caller) → EndsAs op refusal other step new left → new.seat ≡ left.seat
-seat_left op (Some (fault, evidence)) other (steps.Told stamp) new left ends = ap (λ (c : Caller). c.seat) ends.made
-seat_left op (Some (fault, evidence)) other (steps.Halt halt) new left ends = ap (λ (c : Caller). c.seat) ends.1
+seat_left : (op : ℕ) (refusal : Option (Fault × Evidence)) (other step : Step) (new left : CallerState) → EndsAs op refusal other step new left → new.seat ≡ left.seat
+seat_left op (Some (fault, evidence)) other (steps.Told stamp) new left ends = ap (λ (c : CallerState). c.seat) ends.made
+seat_left op (Some (fault, evidence)) other (steps.Halt halt) new left ends = ap (λ (c : CallerState). c.seat) ends.1
 seat_left op (Some (fault, evidence)) other steps.Wait new left ends = absurd ends
 seat_left op (Some (fault, evidence)) other steps.Halted new left ends = absurd ends
-seat_left op None other step new left ends = ap (λ (c : Caller). c.seat) ends.1
+seat_left op None other step new left ends = ap (λ (c : CallerState). c.seat) ends.1
 
-module _ (d : Domain) (desk : Desk) (found : FoundRows) (entry : Entry Cargo) (is : IsDesk d desk) (its_ask : Ask) (event : Event) (has : HasFound d its_ask.service found desk) (aimed : IsAimed d found its_ask.payload entry event desk) (new : Caller) (its : IsSeatOf d.cells new.seat)
+module _ (d : Domain) (desk : Desk) (found : FoundRows) (entry : Entry Cargo) (is : IsDesk d desk) (its_ask : Ask) (event : Event) (has : HasFound d its_ask.service found desk) (aimed : IsAimed d found its_ask.payload entry event desk) (new : CallerState) (its : IsSeatOf d.cells new.seat)
     (why : Why) (no_block : Bool) (step : Step) (reason : IsWhy d found why desk) (unsent : UnsentAs entry.cargo.ticket.cell why no_block step new desk.caller) where
   same_one : unsent.draft ≡ aimed.draft
   same_one = same_draft unsent.draft aimed.draft desk.caller.phase unsent.was aimed.prepared

@@ -35,9 +35,9 @@ use Rattle.xa_server.specs.xa_held.Notes.{one}
 use Rattle.xa_server.specs.xa_held.Visits.{Visits, Reaches}
 use Rattle.xa_server.proofs.xa_held.Lefts.{events_front}
 use Rattle.xa_server.proofs.xa_held.Owning.{queue_own}
-use Rattle.xa_server.specs.xa_worker.Work.{Standing as Working, seeing}
+use Rattle.xa_server.specs.xa_worker.Work.{WorkState, seeing}
 use Rattle.xa_server.specs.xa_caller.declared.cargo.Filling.{Filling}
-use Rattle.xa_server.specs.xa_caller.Caller.{Standing as Caller}
+use Rattle.xa_server.specs.xa_caller.Caller.{CallerState}
 use Rattle.xa_server.specs.xa_caller.Serving.{noted_off}
 use Rattle.xa_server.specs.Told.{HasStamp}
 use Rattle.xa_desk.specs.declared.domain.Domain.{Domain}
@@ -134,8 +134,8 @@ module _ {d : Domain} {queue k : ℕ} {old new : Desk} {p p' : QueuePass} {last 
         → Moves d old new (noted_in more)
     visit_moves grew home seat least above =
         let is = step.is in
-        let w : Working = old.caller.work in
-        let w' : Working = new.caller.work in
+        let w : WorkState = old.caller.work in
+        let w' : WorkState = new.caller.work in
         let here : Home = QueueHome (k + 1) in
         let at_home = subst (λ (n : ℕ). All (λ (x : Stamped). home_of d.setup d.clients x.event ≡ QueueHome n) (noted_in more)) step.has.at home in
         let low = step.has.low in
@@ -180,16 +180,16 @@ module _ {d : Domain} {queue k : ℕ} {old new : Desk} {p p' : QueuePass} {last 
   -- nothing was noted, and the caller saw the queue's last stamp
   module _ {How : Kept Filling → Kept Filling → Type 0} (visits : Visits (page_of p) (page_of p') [] How) (caller : new.caller ≡ record old.caller { work = seeing last old.caller.work }) where
     pub looked_grew : Grew old.caller.work new.caller.work []
-    looked_grew = grew_none old.caller.work new.caller.work old.caller.work.room (record { 0 = max old.caller.work.stamp.0 last.0 }) (ap (λ (c : Caller). c.work) caller) (omega arith)
+    looked_grew = grew_none old.caller.work new.caller.work old.caller.work.room (record { 0 = max old.caller.work.stamp.0 last.0 }) (ap (λ (c : CallerState). c.work) caller) (omega arith)
 
     pub looked_leads : Leads d old new
     looked_leads =
-        let w : Working = old.caller.work in
-        let stamp : new.caller.work.stamp ≡ record { 0 = max w.stamp.0 last.0 } = ap (λ (c : Caller). c.work.stamp) caller in
+        let w : WorkState = old.caller.work in
+        let stamp : new.caller.work.stamp ≡ record { 0 = max w.stamp.0 last.0 } = ap (λ (c : CallerState). c.work.stamp) caller in
         let higher = ap (λ (s : Stamp). s.0) stamp in
         let least = step.is.least in
-        let same = ap (λ (c : Caller). c.least) caller in
-        none_leads step.is (visit_moves visits looked_grew (All-nil (λ (x : Stamped). home_of d.setup d.clients x.event ≡ QueueHome queue)) (ap (λ (c : Caller). c.seat) caller) (omega (arith, least, same)) (omega (arith, higher)))
+        let same = ap (λ (c : CallerState). c.least) caller in
+        none_leads step.is (visit_moves visits looked_grew (All-nil (λ (x : Stamped). home_of d.setup d.clients x.event ≡ QueueHome queue)) (ap (λ (c : CallerState). c.seat) caller) (omega (arith, least, same)) (omega (arith, higher)))
         (λ whole on back. subst (IsKnown whole) (sym stamp) (larger_known whole w.stamp last (step.is.known_stamp whole back) (last_known whole (QueueHome queue) (events_at (page_of p').seen) last (seen_front now_has whole on) step.reaches.is)))
 
     -- where stamps would pass their end, the worker is at that then
@@ -200,7 +200,7 @@ module _ {d : Domain} {queue k : ℕ} {old new : Desk} {p p' : QueuePass} {last 
         let low : first.0 ≤ old.caller.work.stamp.0 = let behind_boot = (setting_found visits).first in let booted = step.is.booted in omega (arith, behind_boot, booted) in
         record {
           last = full.told;
-          at = ap (λ (c : Caller). c.work.stamp.0) caller
+          at = ap (λ (c : CallerState). c.work.stamp.0) caller
               ∙ at_end old.caller.work.stamp first last.0 entries low (step.reaches.is ∙ ap (last_stamp no_stamp) (events_more visits ∙ append-nil entries)) (ap (λ (s : Stamp). larger_of s first entries) (sym saw) ∙ full.larger);
           caller = (last, caller);
         }
@@ -218,7 +218,7 @@ module _ {d : Domain} {queue k : ℕ} {old new : Desk} {p p' : QueuePass} {last 
     noted_leads grew home seat now least grounds =
         let is = step.is in
         let booted = is.booted in
-        let w : Working = old.caller.work in
+        let w : WorkState = old.caller.work in
         let entries : List Stamped = noted_in visits.old.queue.entries in
         let low_first : visits.old.queue.first.0 ≤ w.stamp.0 = let behind_boot = (setting_found visits).first in omega (arith, behind_boot, booted) in
         let lasts : last.0 ≡ stamp.0 = step.reaches.is ∙ ap (last_stamp no_stamp) (events_more visits) ∙ last_stamp-push no_stamp entries Its in
@@ -238,7 +238,7 @@ module _ {d : Domain} {queue k : ℕ} {old new : Desk} {p p' : QueuePass} {last 
         → ((whole : Whole) → GoesOn d whole old → HasGrounds d whole old.caller.work.id.0 old.caller.work.own stamp e) → Leads d old new
     event_leads caller e is home kind grounds =
         let least = step.is.least in
-        let same_least = ap (λ (c : Caller). c.least) caller in
-        noted_leads (grew_one old.caller.work new.caller.work old.caller.work.room Its (ap (λ (c : Caller). c.work) caller) later (subst IsMade (sym is) kind))
-        (ap (home_of d.setup d.clients) is ∙ home) (ap (λ (c : Caller). c.seat) caller) (ap (λ (c : Caller). c.work.stamp) caller) (omega (arith, least, same_least))
+        let same_least = ap (λ (c : CallerState). c.least) caller in
+        noted_leads (grew_one old.caller.work new.caller.work old.caller.work.room Its (ap (λ (c : CallerState). c.work) caller) later (subst IsMade (sym is) kind))
+        (ap (home_of d.setup d.clients) is ∙ home) (ap (λ (c : CallerState). c.seat) caller) (ap (λ (c : CallerState). c.work.stamp) caller) (omega (arith, least, same_least))
         (λ whole on. subst (HasGrounds d whole old.caller.work.id.0 old.caller.work.own stamp) (sym is) (grounds whole on))

@@ -34,7 +34,7 @@ use Rattle.xa_server.specs.xa_held.Joins.{HasServers, changes_page, changes_at, 
 use Rattle.xa_server.specs.xa_held.Kept.{notes_of}
 use Rattle.xa_server.specs.xa_held.Notes.{made_page}
 use Rattle.xa_server.specs.xa_held.Visits.{Sees}
-use Rattle.xa_server.specs.xa_worker.Work.{Standing as Working}
+use Rattle.xa_server.specs.xa_worker.Work.{WorkState}
 use Rattle.xa_server.specs.xa_worker.Going.{FitEach}
 use Rattle.xa_server.specs.xa_caller.declared.cargo.Filling.{Filling}
 use Rattle.xa_server.specs.Told.{HasStamp, FilledByEnds}
@@ -74,7 +74,7 @@ IsGrounded own (Looked look) = (look.stamp.0 ≡ look.before.0) ⊎ HasStamp own
 IsGrounded own note = Unit {0}
 
 -- a worker's pass of the board: it saw the boot, its own entries are what the worker noted there, and the worker's stamp is behind none that it saw
-pub record IsBoardPass (d : Domain) (w : Working) (pass : LockPass BoardNote) : Type 0 where
+pub record IsBoardPass (d : Domain) (w : WorkState) (pass : LockPass BoardNote) : Type 0 where
   pub lock : IsPassOf d.board pass
   pub maker : (page_of pass).maker ≡ w.id.0
   pub sees : SeesBoard d.setup (page_of pass)
@@ -93,7 +93,7 @@ pub record IsSettingOf (d : Domain) (queue : ℕ) (its : Setting Filling) : Type
   pub cells : its.cells ≡ d.cells
 
 -- and of a queue, where they are counted from 0
-pub record IsQueuePass (d : Domain) (w : Working) (k : ℕ) (pass : LockPass (QueueNote Filling)) : Type 0 where
+pub record IsQueuePass (d : Domain) (w : WorkState) (k : ℕ) (pass : LockPass (QueueNote Filling)) : Type 0 where
   pub lock : (default : Guarded (KeptQueue Filling) (QueueNote Filling)) → IsPassOf (slice_index_or d.queues.items k default) pass
   pub maker : (page_of pass).maker ≡ w.id.0
   pub its : Setting Filling
@@ -136,7 +136,7 @@ pub record IsShown (d : Domain) (whole : Whole) (worker : ℕ) (own : List Stamp
   pub known_before : IsKnown whole before
 
 -- the worker shows each event that it noted, by what it had noted before
-abbrev pub Shows : Domain → Whole → Working → Type 0
+abbrev pub Shows : Domain → Whole → WorkState → Type 0
 Shows d whole w = AtEach (λ (x : Stamped) older. IsShown d whole w.id.0 (reverse older) x) (reverse w.own)
 
 -- ---- the desk

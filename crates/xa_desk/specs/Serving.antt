@@ -34,7 +34,7 @@ use Rattle.xa_server.specs.xa_worker.Work.{seeing}
 use Rattle.xa_server.specs.xa_worker.declared.work.Halt.{Halt}
 use Rattle.xa_server.specs.xa_worker.declared.work.Halt.TheVariants as halts
 use Rattle.xa_server.specs.xa_caller.declared.phase.Phase.TheVariants.{Idle}
-use Rattle.xa_server.specs.xa_caller.Caller.{Standing as Caller}
+use Rattle.xa_server.specs.xa_caller.Caller.{CallerState}
 use Rattle.xa_server.specs.xa_caller.Drafts.{Cargo}
 use Rattle.xa_server.specs.xa_caller.Serving.{noted_off}
 use Rattle.xa_server.specs.declared.closing.Closing.{Closing}
@@ -87,11 +87,11 @@ pub record IsServing (d : Domain) (queue : ℕ) (slot : ServerSlot) (desk : Desk
   pub hand : IfSome slot.hand (IsRight d.cells)
 
 -- the caller with an event of its server or of the domain, which was noted at another home
-abbrev pub with_event : Stamp → Event → Caller → Caller
+abbrev pub with_event : Stamp → Event → CallerState → CallerState
 with_event = noted_off
 
 -- the caller saw a stamp
-abbrev pub Sees : Caller → Caller → Type 0
+abbrev pub Sees : CallerState → CallerState → Type 0
 Sees old new = (seen : Stamp) × (new ≡ record old { work = seeing seen old.work })
 
 -- stamps came to their end at the worker's or the queue's last one, which the worker saw

@@ -13,7 +13,7 @@ use Rattle.xa_boot.specs.xa_stamp.Home.{Notes}
 use Rattle.xa_boot.specs.xa_cell.declared.tokens.Seat.{Seat}
 use Rattle.xa_boot.specs.xa_cell.declared.view.Part.{Part}
 use Rattle.xa_boot.specs.xa_worker.Ending.{list_in}
-use Rattle.xa_boot.specs.xa_worker.Work.{Standing as Working}
+use Rattle.xa_boot.specs.xa_worker.Work.{WorkState}
 use Rattle.xa_history.specs.xa_script.declared.script.Client.{Client}
 use Rattle.xa_boot.specs.xa_server.Served.{StarterShows}
 use Rattle.xa_boot.specs.xa_server_worker.Lives.{ServerShows}
@@ -53,7 +53,7 @@ went_on None is = refl
 went_on (Some (Here halt)) is = absurd (cc is)
 went_on (Some Elsewhere) is = absurd (cc is)
 
-halted_so : (itself : Working) (desks : List Desk) (stopped : Option Stopped) → IfSome stopped (IsStopAmong itself desks) → IfSome (halt_of stopped) (IsHaltAmong itself desks)
+halted_so : (itself : WorkState) (desks : List Desk) (stopped : Option Stopped) → IfSome stopped (IsStopAmong itself desks) → IfSome (halt_of stopped) (IsHaltAmong itself desks)
 halted_so itself desks None is = tt
 halted_so itself desks (Some (Here halt)) is = is
 halted_so itself desks (Some Elsewhere) is = tt
@@ -110,7 +110,7 @@ module _ {L T : Type 0} (shows : T → StarterShows) (scripts : List Client) (bo
   abbrev d : Domain
   d = booted.domain
 
-  abbrev itself : Working
+  abbrev itself : WorkState
   itself = work_of d booted.closer
 
   pub all_servers : length booted.servers.items ≡ length d.setup.servers

@@ -15,7 +15,7 @@ use Rattle.xa_boot.specs.xa_stamp.Home.{Notes}
 use Rattle.xa_boot.specs.xa_stamp.Merge.{IsMerged, stamps_of}
 use Rattle.xa_boot.specs.xa_worker.declared.work.Halt.{Halt}
 use Rattle.xa_boot.specs.xa_worker.declared.work.Halt.TheVariants as halts
-use Rattle.xa_boot.specs.xa_pipe.Standing.{Standing as Life, Ending}
+use Rattle.xa_boot.specs.xa_pipe.Standing.{LifeState, Ending}
 use Rattle.xa_history.specs.xa_script.declared.script.Client.{Client}
 use Rattle.xa_boot.specs.xa_server.Served.{StarterShows}
 use Rattle.xa_boot.specs.xa_server_worker.Lives.{ServerShows}
@@ -61,8 +61,8 @@ module _ (d : Domain) (desks : List Desk) (W : Type 0) (whole : W) where
   cut_of n x (Some desk) is = is.none_cut whole
 
   none_cut : (n : ℕ) (servers : List ServerEnd) → EachNumbered (λ k (x : ServerEnd). IsSomeAnd (numbered (d.clients + k) desks) (λ desk. ServerShows d x.shown.name (queue_of d.setup k) k desk x.lives x.cut x.shown W)) n servers → IsNoneCut (map (λ (x : ServerEnd). x.cut) servers)
-  none_cut n [] each = All-nil (λ (c : List Life). c ≡ [])
-  none_cut n (x ∷ servers) each = All-cons (λ (c : List Life). c ≡ []) x.cut (map (λ (x : ServerEnd). x.cut) servers) (cut_of n x (numbered (d.clients + n) desks) each.0) (none_cut (n + 1) servers each.1)
+  none_cut n [] each = All-nil (λ (c : List LifeState). c ≡ [])
+  none_cut n (x ∷ servers) each = All-cons (λ (c : List LifeState). c ≡ []) x.cut (map (λ (x : ServerEnd). x.cut) servers) (cut_of n x (numbered (d.clients + n) desks) each.0) (none_cut (n + 1) servers each.1)
 
 -- ---- by server
 
@@ -90,7 +90,7 @@ module _ {L T : Type 0} (shows : T → StarterShows) (clients : List Client) (bo
   abbrev lives : List (List Ending)
   lives = map (λ (v : Vec Ending Global). v.items) h.lives.items
 
-  abbrev cut : List (List Life)
+  abbrev cut : List (List LifeState)
   cut = map cut_in h.cut.items
 
   lives_same : map (λ (x : ServerEnd). x.lives) servers ≡ lives

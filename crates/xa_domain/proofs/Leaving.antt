@@ -16,7 +16,7 @@ use Rattle.xa_boot.specs.xa_worker.Crew.{stands_at}
 use Rattle.xa_boot.specs.xa_worker.Seen.{SawEntry}
 use Rattle.xa_boot.proofs.xa_worker.Lists.{filter-yes, filter-no}
 use Rattle.xa_boot.proofs.xa_cell.Lists.{below}
-use Rattle.xa_boot.specs.xa_worker.Work.{Standing as Working}
+use Rattle.xa_boot.specs.xa_worker.Work.{WorkState}
 use Rattle.xa_history.specs.xa_script.declared.script.Client.{Client}
 use Rattle.xa_boot.specs.xa_desk.declared.domain.Domain.{Domain}
 use Rattle.xa_boot.specs.xa_desk.Whole.{Whole, IsKnown}
@@ -130,9 +130,9 @@ greatest_more seen last front ended none low is =
 -- a client that is done and didn't stop before left with its last stamp
 gone_left : (d : Domain) (client : ℕ) (ops : List Op) (ended : Ended) → IsGone d client ops ended → ended.stopped ≡ None → (ended.done.left.work.id.0 ≡ client) × Contains ended.done.left.work.own (leave_of client ended)
 gone_left d client ops ended gone none =
-    let id : ended.done.left.work.id.0 ≡ client = ap (λ (w : Working). w.id.0) gone.left.work ∙ gone.id in
+    let id : ended.done.left.work.id.0 ≡ client = ap (λ (w : WorkState). w.id.0) gone.left.work ∙ gone.id in
     let wrap : ℕ → CallerId = λ n. record { 0 = n } in
-    let Noted : Working → Type 0 = λ w. Contains w.own (record { stamp = w.stamp; event = Leave w.id }) in
+    let Noted : WorkState → Type 0 = λ w. Contains w.own (record { stamp = w.stamp; event = Leave w.id }) in
     let here : Noted ended.done.left.work = subst Noted (sym gone.left.work) (gone.all none).made.left in
     (id, subst (λ (i : CallerId). Contains ended.done.left.work.own (record { stamp = ended.done.left.work.stamp; event = Leave i })) (ap wrap id) here)
 

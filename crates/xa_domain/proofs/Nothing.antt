@@ -18,7 +18,7 @@ use Rattle.xa_boot.specs.xa_worker.Ending.{list_in}
 use Rattle.xa_boot.specs.xa_worker.declared.work.Halt.{Halt}
 use Rattle.xa_boot.specs.xa_worker.declared.work.Halt.TheVariants.{NoMemory}
 use Rattle.xa_history.specs.xa_script.declared.script.Client.{Client}
-use Rattle.xa_boot.specs.xa_pipe.Standing.{Standing as Life, Ending}
+use Rattle.xa_boot.specs.xa_pipe.Standing.{LifeState, Ending}
 use Rattle.xa_boot.specs.xa_server.Served.{StarterShows}
 use Rattle.xa_boot.specs.xa_desk.Made.{IsMade}
 use Rattle.xa_boot.specs.xa_server_worker.Lives.{HasStarted, IsCut}
@@ -80,7 +80,7 @@ module _ {S : Type 0} (shows : S → StarterShows) (setup : Setup) where
           (record { run = refl; lawful = lawful_run setup (length clients) [] (opening setup (length clients)) refl; made = All-nil IsMade; all = all; lives_are = record { lives_count = omega arith; cut_count = omega arith; each = λ server some low. no_lives setup server some }; each = each });
     }
 
-    pub none_ends : (halt : Option Halt) (homes : List Notes) (lives : List (List Ending)) (cut : List (List Life)) → halt ≡ Some NoMemory → homes ≡ [] → lives ≡ [] → cut ≡ [] → ServeEnds shows setup clients halt homes lives cut starters
+    pub none_ends : (halt : Option Halt) (homes : List Notes) (lives : List (List Ending)) (cut : List (List LifeState)) → halt ≡ Some NoMemory → homes ≡ [] → lives ≡ [] → cut ≡ [] → ServeEnds shows setup clients halt homes lives cut starters
     none_ends halt homes lives cut why no_homes none none_cut =
         subst (λ h. ServeEnds shows setup clients h homes lives cut starters) (sym why)
         (subst (λ hs. ServeEnds shows setup clients (Some NoMemory) hs lives cut starters) (sym no_homes)

@@ -6,24 +6,28 @@ use denote.Struct.Declared as declared
 use denote.Param.Send.{IsSend, IsSync, sendable, struct_send, struct_sync, recorded_send, recorded_sync}
 use Rattle.std.proofs.Crossing.{crosses}
 use Rattle.xa_history.proofs.xa_script.script.Client.TheSendSync as client
+use Rattle.xa_boot.specs.contracts.desk.Monitor as Monitor
 use Rattle.xa_domain.specs.contracts.crew.Shared as Shared
 use Rattle.xa_domain.specs.contracts.crew.ClientSide as ClientSide
 use Rattle.xa_domain.proofs.Sending.{client_worker_sends, closer_field, domain_syncs}
 
 module _ (a : NamedLft) (R G : RattleType) (r : IsSync R) (s : IsSync G) where
-  fields_sync : IsSync (Shared.the_field a R G).row
-  fields_sync = struct_sync (declared.shape (Shared.the_type a R G)) (
+  monitor_sync : IsSync (Monitor.the_field a R G).row
+  monitor_sync = struct_sync (declared.shape (Monitor.the_type a R G)) (
     search (sendable, r) depth 40 fits 20000,
     (
       search (sendable, crosses) depth 40 fits 20000,
       (
         search (sendable, domain_syncs) depth 40 fits 20000,
-        (
-          search (sendable, crosses, client.the_sync) depth 40 fits 20000,
-          (search (sendable, s) depth 40 fits 20000, tt),
-        ),
+        (search (sendable, s) depth 40 fits 20000, tt),
       ),
     ),
+  )
+
+  fields_sync : IsSync (Shared.the_field a R G).row
+  fields_sync = struct_sync (declared.shape (Shared.the_type a R G)) (
+    monitor_sync,
+    (search (sendable, crosses, client.the_sync) depth 40 fits 20000, tt),
   )
 
   pub shared_syncs : IsSync (Shared.the_row a R G)

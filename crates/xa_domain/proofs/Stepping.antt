@@ -44,7 +44,7 @@ use Rattle.xa_boot.proofs.xa_held.Owning.{queue_own}
 use Rattle.xa_boot.proofs.xa_held.Seen.{events_kept, events_more, sees_more}
 use Rattle.xa_boot.specs.xa_worker.declared.work.Halt.{Halt}
 use Rattle.xa_boot.specs.xa_worker.declared.work.Halt.TheVariants as halts
-use Rattle.xa_boot.specs.xa_worker.Work.{Standing as Working, IsWorkOf, theirs}
+use Rattle.xa_boot.specs.xa_worker.Work.{WorkState, IsWorkOf, theirs}
 use Rattle.xa_boot.proofs.xa_worker.Noting.{theirs-more}
 use Rattle.xa_boot.specs.xa_desk.declared.domain.Domain.{Domain}
 use Rattle.xa_boot.specs.xa_desk.Desks.{HasGrounds, IsBoardPass, IsQueuePass, IsSettingOf, IsThere, Shows, page_in, page_at}
@@ -134,10 +134,10 @@ passed_on (Ok done) e P is holds = tt
 passed_on (Err y) e P is holds = subst P (sym is) holds
 
 module _ {d : Domain} {place : ℕ} {old new : Closer} {p p' : QueuePass} {last : Stamp} (step : Step d place old new p p' last) where
-  abbrev w : Working
+  abbrev w : WorkState
   w = work_of d old
 
-  abbrev w' : Working
+  abbrev w' : WorkState
   w' = work_of d new
 
   now_there : slice_index_or new.queues.items place None ≡ Some p'

@@ -23,10 +23,10 @@ use Rattle.xa_boot.specs.xa_held.declared.kept_board.BoardNote.{BoardNote}
 use Rattle.xa_boot.specs.xa_held.declared.kept_queue.QueueNote.{QueueNote}
 use Rattle.xa_boot.specs.xa_worker.declared.work.Halt.{Halt}
 use Rattle.xa_boot.specs.xa_worker.declared.work.Halt.TheVariants as halts
-use Rattle.xa_boot.specs.xa_worker.Work.{Standing as Working, IsSound}
+use Rattle.xa_boot.specs.xa_worker.Work.{WorkState, IsSound}
 use Rattle.xa_boot.specs.xa_caller.declared.cargo.Filling.{Filling}
 use Rattle.xa_boot.specs.xa_caller.Changes.{LeavesAs}
-use Rattle.xa_boot.specs.xa_pipe.Standing.{Standing as Life, Ending}
+use Rattle.xa_boot.specs.xa_pipe.Standing.{LifeState, Ending}
 use Rattle.xa_history.specs.xa_script.declared.script.Client.{Client}
 use Rattle.xa_boot.specs.xa_server.Served.{StarterShows}
 use Rattle.xa_boot.specs.xa_desk.declared.domain.Domain.{Domain}
@@ -86,12 +86,12 @@ first_more : {X : Type 0} (why : X → Option Stopped) (xs : List X) (x : X) (be
 first_more why xs x before now new next is has same =
     is ∙ ap (λ (o : Option Stopped). first_of o next) has ∙ sym (ap (first_among before) (map-append why xs (x ∷ []) ∙ ap (λ (o : Option Stopped). map why xs ++ o ∷ []) same) ∙ first_push before (map why xs) next)
 
-stops_more : (itself : Working) (desks more : List Desk) (s : Stopped) → IsStopAmong itself desks s → IsStopAmong itself (desks ++ more) s
+stops_more : (itself : WorkState) (desks more : List Desk) (s : Stopped) → IsStopAmong itself desks s → IsStopAmong itself (desks ++ more) s
 stops_more itself desks more (Here halts.NoMemory) is = tt
 stops_more itself desks more (Here (halts.Worn stamp)) is = (is.0, elim is.1 [ inl x ↦ inl x | inr y ↦ inr (y.0, Contains-append_left desks more y.0 y.1, y.2) ])
 stops_more itself desks more Elsewhere is = tt
 
-stops_last : (itself : Working) (desks : List Desk) (desk : Desk) (s : Stopped) → IsStopAt desk s → IsStopAmong itself (desks ++ desk ∷ []) s
+stops_last : (itself : WorkState) (desks : List Desk) (desk : Desk) (s : Stopped) → IsStopAt desk s → IsStopAmong itself (desks ++ desk ∷ []) s
 stops_last itself desks desk (Here halts.NoMemory) is = tt
 stops_last itself desks desk (Here (halts.Worn stamp)) is = (is.0, inr (desk, Contains-push desks desk, is.1))
 stops_last itself desks desk Elsewhere is = tt
@@ -115,10 +115,10 @@ numbered-push : {X : Type 0} (P : ℕ → X → Type 0) (n : ℕ) (xs : List X) 
 numbered-push P n [] x each is = (subst (λ k. P k x) (omega arith) is, tt)
 numbered-push P n (y ∷ xs) x each is = let same : n + suc (length xs) ≡ n + 1 + length xs = omega arith in (each.0, numbered-push P (n + 1) xs x each.1 (subst (λ k. P k x) same is))
 
-home_same : (d : Domain) (desk : Desk) (work : Working) (entries : List Stamped) → IsDesk d desk → work ≡ desk.caller.work → entries ≡ filter (stands_at work.setup work.clients (CallerHome work.id.0)) work.own → entries ≡ home_of_desk d desk
+home_same : (d : Domain) (desk : Desk) (work : WorkState) (entries : List Stamped) → IsDesk d desk → work ≡ desk.caller.work → entries ≡ filter (stands_at work.setup work.clients (CallerHome work.id.0)) work.own → entries ≡ home_of_desk d desk
 home_same d desk work entries at_desk same is =
-    let w : Working = desk.caller.work in
-    is ∙ ap (λ (x : Working). filter (stands_at x.setup x.clients (CallerHome x.id.0)) x.own) same
+    let w : WorkState = desk.caller.work in
+    is ∙ ap (λ (x : WorkState). filter (stands_at x.setup x.clients (CallerHome x.id.0)) x.own) same
     ∙ ap (λ setup. filter (stands_at setup w.clients (CallerHome w.id.0)) w.own) at_desk.setup ∙ ap (λ n. filter (stands_at d.setup n (CallerHome w.id.0)) w.own) at_desk.clients
 
 module _ {L T : Type 0} (d : Domain) (itself : Leaving) where
@@ -244,7 +244,7 @@ module _ {L T : Type 0} (d : Domain) (itself : Leaving) (scripts : List Client) 
           keep = λ whole hold.
               let parts = All-pop (λ (x : Desk). All (Contains (whole.callers x.caller.work.id.0)) (home_of_desk d x)) (has.desks ++ desk ∷ []) has.desks (Some desk) refl hold in
               All-push (KeepsItsOwn d whole) so_far.front client (has.keep whole parts.0)
-              (subst (KeepsItsOwn d whole) (sym gone.1) (subst (λ (w : Working). All (Contains (whole.callers w.id.0)) (filter (stands_at d.setup d.clients (CallerHome w.id.0)) w.own)) (sym as_left.work) parts.1));
+              (subst (KeepsItsOwn d whole) (sym gone.1) (subst (λ (w : WorkState). All (Contains (whole.callers w.id.0)) (filter (stands_at d.setup d.clients (CallerHome w.id.0)) w.own)) (sym as_left.work) parts.1));
           made = λ none. zip_push (λ (c : Client) (x : Desk). HasMadeAll d c.ops x) so_far.its has.desks next.0 desk (has.made (none_before none).0) (gone.0.all (none_before none).1);
           why = first_more why_left so_far.front client old.stopped now.stopped new.stopped ended.stopped stopped has.why (ap why_left gone.1);
           before = λ none. has.before (none_before none).0;
@@ -257,7 +257,7 @@ module _ {L T : Type 0} (d : Domain) (itself : Leaving) (scripts : List Client) 
 not_client : (clients caller : ℕ) → clients < caller → is_client clients caller ≡ false
 not_client clients caller less = grind (arith, nat_tests)
 
-leaves_same : (halt : Option Halt) (new old : Working) → is_client old.clients old.id.0 ≡ false → LeavesAs halt new old → new ≡ old
+leaves_same : (halt : Option Halt) (new old : WorkState) → is_client old.clients old.id.0 ≡ false → LeavesAs halt new old → new ≡ old
 leaves_same None new old other (inl y) = absurd (cc (other, y.0))
 leaves_same None new old other (inr y) = y.1
 leaves_same (Some halt) new old other leaves = leaves.2
@@ -290,7 +290,7 @@ module _ {L T : Type 0} (d : Domain) (shows : T → StarterShows) (itself : Leav
       subst (λ ws. HasServers d shows itself desks ws old now) (sym (append-nil so_far.front) ∙ ap (λ l. so_far.front ++ l) (sym none) ∙ so_far.servers_are) so_far.has
 
   -- one more, whose caller leaves without an event
-  pub servers_more : (rest left : List (ServerWorker L T)) (w : ServerWorker L T) (halt : Option Halt) (work : Working) (seat : Seat Filling) (now new : Gathered L T) (notes : Notes)
+  pub servers_more : (rest left : List (ServerWorker L T)) (w : ServerWorker L T) (halt : Option Halt) (work : WorkState) (seat : Seat Filling) (now new : Gathered L T) (notes : Notes)
       → HasServersSo d shows itself desks servers rest old now → rest ≡ w ∷ left → seat ≡ w.desk.caller.seat → IsShut w.desk.caller.seat → LeavesAs halt work w.desk.caller.work
       → new.stopped ≡ first_of now.stopped w.stopped → AddsTokens seat w.desk.board w.desk.queues.items now.tokens new.tokens → new.callers.items ≡ now.callers.items ++ notes ∷ []
       → notes.entries ≡ filter (stands_at work.setup work.clients (CallerHome work.id.0)) work.own → IsSound work
@@ -350,7 +350,7 @@ made_each d front (desk ∷ desks) more (c ∷ scripts) n is all =
       subst (λ l. EachNumbered (λ k (x : Client). IsSomeAnd (numbered k l) (HasMadeAll d x.ops)) (n + 1) scripts) (append_assoc front (desk ∷ []) (desks ++ more)) (made_each d (front ++ desk ∷ []) desks more scripts (n + 1) next all.1),
     )
 
-shows_weaker : (d : Domain) (name : List ℕ) (queue server : ℕ) (desk : Desk) (lives : List Ending) (cut : List Life) (shown : StarterShows) (Whole Less : Type 0) → (Less → Whole) → ServerShows d name queue server desk lives cut shown Whole → ServerShows d name queue server desk lives cut shown Less
+shows_weaker : (d : Domain) (name : List ℕ) (queue server : ℕ) (desk : Desk) (lives : List Ending) (cut : List LifeState) (shown : StarterShows) (Whole Less : Type 0) → (Less → Whole) → ServerShows d name queue server desk lives cut shown Whole → ServerShows d name queue server desk lives cut shown Less
 shows_weaker d name queue server desk lives cut shown Whole Less from is = record {
   lives_are = is.lives_are;
   taken = is.taken;
@@ -395,7 +395,7 @@ module _ {L T : Type 0} (d : Domain) (shows : T → StarterShows) where
     taken = has.taken;
     count = has.count ∙ all;
     no_lives = ap (λ (v : Vec (Vec Ending Global) Global). v.items) kept.same_lives ∙ nothing.lives_room.0;
-    no_cut = ap (λ (v : Vec (Option Life) Global). v.items) kept.same_cut ∙ nothing.cut_room.0;
+    no_cut = ap (λ (v : Vec (Option LifeState) Global). v.items) kept.same_cut ∙ nothing.cut_room.0;
     no_starters = ap (λ (v : Vec T Global). v.items) kept.same_starters ∙ nothing.starters_room.0;
   }
 

@@ -11,7 +11,7 @@ use Rattle.xa_boot.specs.xa_stamp.Home.{Notes}
 use Rattle.xa_boot.specs.xa_worker.Crew.{stands_at}
 use Rattle.xa_boot.specs.xa_worker.declared.work.Halt.{Halt}
 use Rattle.xa_boot.specs.xa_worker.declared.work.Halt.TheVariants as halts
-use Rattle.xa_boot.specs.xa_worker.Work.{Standing as Working, IsSound}
+use Rattle.xa_boot.specs.xa_worker.Work.{WorkState, IsSound}
 use Rattle.xa_boot.specs.xa_pipe.Standing.{Ending}
 use Rattle.xa_history.specs.xa_script.declared.script.Client.{Client}
 use Rattle.xa_boot.specs.xa_server.Served.{StarterShows}
@@ -50,11 +50,11 @@ abbrev pub HoldTheirs : Domain → List Desk → Whole → Type 0
 HoldTheirs d desks whole = All (λ (desk : Desk). All (Contains (whole.callers desk.caller.work.id.0)) (home_of_desk d desk)) desks
 
 -- stamps came to their end at one of these workers, or for the domain itself
-abbrev pub IsHaltAmong : Working → List Desk → Halt → Type 0
+abbrev pub IsHaltAmong : WorkState → List Desk → Halt → Type 0
 IsHaltAmong itself desks halts.NoMemory = Unit {0}
 IsHaltAmong itself desks (halts.Worn stamp) = (stamp.0 ≡ 2 ^ 63) × ((itself.stamp.0 ≡ 2 ^ 63) ⊎ ((desk : Desk) × Contains desks desk × (desk.caller.work.stamp.0 ≡ 2 ^ 63)))
 
-abbrev pub IsStopAmong : Working → List Desk → Stopped → Type 0
+abbrev pub IsStopAmong : WorkState → List Desk → Stopped → Type 0
 IsStopAmong itself desks (Here halt) = IsHaltAmong itself desks halt
 IsStopAmong itself desks Elsewhere = Unit {0}
 

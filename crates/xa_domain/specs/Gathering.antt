@@ -9,7 +9,7 @@ use Rattle.xa_boot.specs.xa_lock.declared.pass.LockPass.{LockPass}
 use Rattle.xa_boot.specs.xa_cell.declared.tokens.Seat.{Seat}
 use Rattle.xa_boot.specs.xa_held.declared.kept_board.BoardNote.{BoardNote}
 use Rattle.xa_boot.specs.xa_held.declared.kept_queue.QueueNote.{QueueNote}
-use Rattle.xa_boot.specs.xa_worker.Work.{Standing as Working}
+use Rattle.xa_boot.specs.xa_worker.Work.{WorkState}
 use Rattle.xa_boot.specs.xa_pipe.Standing.{Ending}
 use Rattle.xa_boot.specs.xa_caller.declared.cargo.Filling.{Filling}
 use Rattle.xa_history.specs.xa_script.declared.script.Client.{Client}
@@ -65,7 +65,7 @@ pub record AreAdded (passes : List (Option (LockPass (QueueNote Filling)))) (old
 
 -- a worker's seat and passes stand behind those of the others
 pub record AddsTokens (seat : Seat Filling) (board : Option (LockPass BoardNote)) (queues : List (Option (LockPass (QueueNote Filling)))) (old new : Tokens) : Type 0 where
-  pub are : (work : Working) (n : ℕ) (all : List Leaving) → AreTokens n all old → AreTokens n (all ++ record { work = work; seat = seat; board = board; queues = queues } ∷ []) new
+  pub are : (work : WorkState) (n : ℕ) (all : List Leaving) → AreTokens n all old → AreTokens n (all ++ record { work = work; seat = seat; board = board; queues = queues } ∷ []) new
   pub space : (more : ℕ) → HasTokenSpace (more + 1) old → HasTokenSpace more new
 
 -- ---- the workers

@@ -4,7 +4,7 @@ use Rattle.std.specs.declared.vec.Vec.{Vec}
 use Rattle.std.specs.declared.alloc.Global.{Global}
 use Rattle.xa_boot.specs.xa_worker.declared.work.Halt.{Halt}
 use Rattle.xa_boot.specs.xa_worker.declared.work.Halt.TheVariants.{NoMemory}
-use Rattle.xa_boot.specs.xa_worker.Work.{Standing as Working}
+use Rattle.xa_boot.specs.xa_worker.Work.{WorkState}
 use Rattle.xa_boot.specs.xa_pipe.Standing.{Ending}
 use Rattle.xa_history.specs.xa_script.declared.script.Client.{Client}
 use Rattle.xa_boot.specs.xa_server.Served.{StarterShows}
@@ -32,7 +32,7 @@ halt_of (Some Elsewhere) = Some NoMemory
 -- to itself is told
 pub record HandsBack {L T : Type 0} (shows : T → StarterShows) (scripts : List Client) (booted : Booted L T) (h : Served L T) : Type 0 where
   pub b : Back
-  pub domain : Working
+  pub domain : WorkState
   pub desks : List Desk
   pub ends : Ends booted.domain b domain desks (map (end_of shows) booted.servers.items) h.homes.homes (h.halt ≡ None)
   pub whole : h.halt ≡ None → EndsWhole booted.domain b desks (map (λ (c : Client). c.ops) scripts)

@@ -10,7 +10,7 @@ use Rattle.xa_boot.specs.xa_cell.Places.{IsShut}
 use Rattle.xa_boot.specs.xa_held.declared.kept_board.BoardNote.{BoardNote}
 use Rattle.xa_boot.specs.xa_held.declared.kept_queue.QueueNote.{QueueNote}
 use Rattle.xa_boot.specs.xa_worker.Ending.{workers_of}
-use Rattle.xa_boot.specs.xa_worker.Work.{Standing as Working}
+use Rattle.xa_boot.specs.xa_worker.Work.{WorkState}
 use Rattle.xa_boot.specs.xa_caller.declared.cargo.Filling.{Filling}
 use Rattle.xa_boot.specs.xa_desk.declared.domain.Domain.{Domain}
 use Rattle.xa_boot.specs.xa_desk.declared.desk.Desk.{Desk}
@@ -21,7 +21,7 @@ use Rattle.xa_domain.specs.declared.tokens.Tokens.{Tokens}
 
 -- a worker's work, its seat, and its passes
 pub record Leaving : Type 0 where
-  pub work : Working
+  pub work : WorkState
   pub seat : Seat Filling
   pub board : Option (LockPass BoardNote)
   pub queues : List (Option (LockPass (QueueNote Filling)))

@@ -8,7 +8,7 @@ use Rattle.xa_boot.specs.xa_stamp.Merge.{IsDense, IsMerged}
 use Rattle.xa_boot.specs.xa_worker.declared.work.Halt.{Halt}
 use Rattle.xa_boot.specs.xa_worker.declared.work.Halt.TheVariants.{NoMemory}
 use Rattle.xa_history.specs.xa_script.declared.script.Client.{Client}
-use Rattle.xa_boot.specs.xa_pipe.Standing.{Standing as Life, Ending}
+use Rattle.xa_boot.specs.xa_pipe.Standing.{LifeState, Ending}
 use Rattle.xa_boot.specs.xa_server.Served.{StarterShows}
 use Rattle.xa_boot.specs.xa_server_worker.Lives.{HasStarted}
 use Rattle.xa_domain.specs.Working.{IsBuiltClient}
@@ -20,8 +20,8 @@ pub record IsBuilt (clients : List Client) : Type 0 where
   pub calls : All IsBuiltClient clients
 
 -- no life was cut
-abbrev pub IsNoneCut : List (List Life) → Type 0
-IsNoneCut cut = All (λ (of_server : List Life). of_server ≡ []) cut
+abbrev pub IsNoneCut : List (List LifeState) → Type 0
+IsNoneCut cut = All (λ (of_server : List LifeState). of_server ≡ []) cut
 
 module _ {S : Type 0} (shows : S → StarterShows) (setup : Setup) (clients : List Client) where
   -- every home is handed back, and each server's starter
@@ -39,12 +39,12 @@ module _ {S : Type 0} (shows : S → StarterShows) (setup : Setup) (clients : Li
   HasHomes halt homes starters = HasAll homes starters
 
   -- what the merged events are, by whether the run halted; cut are the lives that went on at a halt
-  abbrev pub ComesTo : Option Halt → List Event → List (List Ending) → List (List Life) → List S → Type 0
+  abbrev pub ComesTo : Option Halt → List Event → List (List Ending) → List (List LifeState) → List S → Type 0
   ComesTo None events lives cut starters = IsServedWhole shows setup clients events lives starters × IsNoneCut cut × (length cut ≡ length setup.servers)
   ComesTo (Some halt) events lives cut starters = IsServedSoFar shows halt setup (length clients) events lives cut starters
 
   -- how serving ends: each event stands at its own home, with dense stamps that rise, and the merge of the homes comes to that
-  pub record ServeEnds (halt : Option Halt) (homes : List Notes) (lives : List (List Ending)) (cut : List (List Life)) (starters : List S) : Type 0 where
+  pub record ServeEnds (halt : Option Halt) (homes : List Notes) (lives : List (List Ending)) (cut : List (List LifeState)) (starters : List S) : Type 0 where
     pub homed : HasHomes halt homes starters
     pub dense : IsDense (record { 0 = 0 }) homes
     pub worn : IfSome halt (λ why. IsWorn why homes)

@@ -17,7 +17,7 @@ use std::alloc::Global;
 use std::sync::Wait;
 use std::thread::Threads;
 use xa_boot::clients::ClientWorker;
-use xa_boot::desk::Domain;
+use xa_boot::desk::Monitor;
 use xa_boot::link::{Gate, Link, Starter};
 use xa_boot::links::ServerWorker;
 use xa_boot::work::Halt;
@@ -27,16 +27,13 @@ use xa_history::script::Client;
 // What all workers share.
 #[derive(Drop)]
 struct Shared<'a, R, G> {
-    rt: &'a R,
-    alloc: Global,
-    domain: &'a Domain,
+    monitor: Monitor<'a, R, G>,
     scripts: &'a [Client],
-    gate: &'a G,
 }
 
 impl<'a, R, G> Halting for Shared<'a, R, G> {
     fn halt(&self) {
-        self.domain.stop(Halt::NoMemory);
+        self.monitor.domain.stop(Halt::NoMemory);
     }
 }
 
@@ -51,20 +48,20 @@ fn clients_at_work<R: Threads + Wait + Sync, G: Gate>(
     shared: &Shared<'_, R, G>,
     clients: &mut [ClientWorker],
 )
-    requires domain { IsDomain shared.now.domain.now }
+    requires domain { IsDomain shared.now.monitor.domain.now }
     requires built { All IsBuiltClient shared.now.scripts.now }
     requires count { length shared.now.scripts.now ≡ length clients.old }
-    requires new { EachNumbered (IsNewClient shared.now.domain.now) 1 clients.old }
-    ensures { EachDone shared.now.domain.now 1 shared.now.scripts.now clients.new }
+    requires new { EachNumbered (IsNewClient shared.now.monitor.domain.now) 1 clients.old }
+    ensures { EachDone shared.now.monitor.domain.now 1 shared.now.scripts.now clients.new }
 {
     let work = |shared: &Shared<'_, R, G>, place: usize, client: &mut ClientWorker|
-        requires { IsDomain shared.now.domain.now × All IsBuiltClient shared.now.scripts.now × (place < length shared.now.scripts.now) × MayWork shared.now.domain.now client.old }
-        ensures { (script : Script) → script ≡ slice_index_or shared.now.scripts.now place script → HasWorked shared.now.domain.now script.ops (length script.ops) client.old client.new }
+        requires { IsDomain shared.now.monitor.domain.now × All IsBuiltClient shared.now.scripts.now × (place < length shared.now.scripts.now) × MayWork shared.now.monitor.domain.now client.old }
+        ensures { (script : Script) → script ≡ slice_index_or shared.now.scripts.now place script → HasWorked shared.now.monitor.domain.now script.ops (length script.ops) client.old client.new }
     {
         let ops = shared.scripts[place].ops.slice();
-        client.work(shared.rt, shared.alloc, shared.domain, ops, shared.gate)
+        client.work(&shared.monitor, ops)
     };
-    all_at_work(shared.rt, shared, clients, &work);
+    all_at_work(shared.monitor.rt, shared, clients, &work);
 }
 
 // Each server serves.
@@ -72,16 +69,16 @@ fn servers_at_work<R: Threads + Wait + Sync, L: Link + Send, T: Starter<L> + Sen
     shared: &Shared<'_, R, G>,
     servers: &mut [ServerWorker<L, T>],
 )
-    requires domain { IsDomain shared.now.domain.now }
-    requires new { EachNumbered (IsNewServer shared.now.domain.now T.shows) 1 servers.old }
-    ensures over { EachNumbered (IsOver shared.now.domain.now T.shows) 1 servers.new }
+    requires domain { IsDomain shared.now.monitor.domain.now }
+    requires new { EachNumbered (IsNewServer shared.now.monitor.domain.now T.shows) 1 servers.old }
+    ensures over { EachNumbered (IsOver shared.now.monitor.domain.now T.shows) 1 servers.new }
     ensures names { map (λ w. (T.shows w.served.starter).name) servers.new ≡ map (λ w. w.name) servers.old }
 {
     let work = |shared: &Shared<'_, R, G>, _: usize, server: &mut ServerWorker<L, T>|
-        requires { IsDomain shared.now.domain.now × MayServe shared.now.domain.now T.shows server.old }
-        ensures { HasServed shared.now.domain.now T.shows server.old server.new }
-    { server.work(shared.rt, shared.alloc, shared.domain, shared.gate) };
-    all_at_work(shared.rt, shared, servers, &work);
+        requires { IsDomain shared.now.monitor.domain.now × MayServe shared.now.monitor.domain.now T.shows server.old }
+        ensures { HasServed shared.now.monitor.domain.now T.shows server.old server.new }
+    { server.work(&shared.monitor) };
+    all_at_work(shared.monitor.rt, shared, servers, &work);
 }
 
 // The clients, once each server is up or given up, and then the closing.
@@ -89,19 +86,19 @@ fn clients_then_closing<R: Threads + Wait + Sync, G: Gate>(
     shared: &Shared<'_, R, G>,
     side: &mut ClientSide,
 )
-    requires domain { IsDomain shared.now.domain.now }
+    requires domain { IsDomain shared.now.monitor.domain.now }
     requires built { All IsBuiltClient shared.now.scripts.now }
-    requires scripts { length shared.now.scripts.now ≡ shared.now.domain.now.clients }
-    requires count { length side.old.clients.items ≡ shared.now.domain.now.clients }
-    requires new { EachNumbered (IsNewClient shared.now.domain.now) 1 side.old.clients.items }
-    requires closer { IsNewCloser shared.now.domain.now side.old.closer }
-    ensures clients { EachDone shared.now.domain.now 1 shared.now.scripts.now side.new.clients.items }
-    ensures closer { HasClosed shared.now.domain.now side.new.clients.items side.new.closer }
+    requires scripts { length shared.now.scripts.now ≡ shared.now.monitor.domain.now.clients }
+    requires count { length side.old.clients.items ≡ shared.now.monitor.domain.now.clients }
+    requires new { EachNumbered (IsNewClient shared.now.monitor.domain.now) 1 side.old.clients.items }
+    requires closer { IsNewCloser shared.now.monitor.domain.now side.old.closer }
+    ensures clients { EachDone shared.now.monitor.domain.now 1 shared.now.scripts.now side.new.clients.items }
+    ensures closer { HasClosed shared.now.monitor.domain.now side.new.clients.items side.new.closer }
 {
-    let domain = shared.domain;
-    domain.await_up(shared.rt);
+    let Monitor { rt, domain, .. } = shared.monitor;
+    domain.await_up(rt);
     clients_at_work(shared, side.clients.as_mut_slice());
-    close_behind(shared.rt, domain, side.clients.as_slice(), &mut side.closer);
+    close_behind(rt, domain, side.clients.as_slice(), &mut side.closer);
     match side.closer.halt {
         None => domain.wake_all(),
         Some(halt) => domain.stop(halt),
@@ -110,12 +107,12 @@ fn clients_then_closing<R: Threads + Wait + Sync, G: Gate>(
 
 /// Runs each client and each server of the domain on a thread of its own, and closes the queues once all clients have left.
 /// Where a thread can't be made the run halts, and the worker that it was for is run on the thread that wanted to make it.
-pub fn run_all<R: Threads + Wait + Sync, L: Link + Send, T: Starter<L> + Send, G: Gate>(
-    rt: &R,
+pub fn run_all<'a, R: Threads + Wait + Sync, L: Link + Send, T: Starter<L> + Send, G: Gate>(
+    rt: &'a R,
     alloc: Global,
-    scripts: &[Client],
+    scripts: &'a [Client],
     booted: Booted<L, T>,
-    gate: &G,
+    gate: &'a G,
 ) -> Booted<L, T>
     requires domain { IsDomain booted.domain }
     requires built { All IsBuiltClient scripts.now }
@@ -137,22 +134,22 @@ pub fn run_all<R: Threads + Wait + Sync, L: Link + Send, T: Starter<L> + Send, G
         closer,
     } = booted;
     let mut side = ClientSide { clients, closer };
-    let shared = Shared {
+    let monitor = Monitor {
         rt,
         alloc,
         domain: &domain,
-        scripts,
         gate,
     };
+    let shared = Shared { monitor, scripts };
     let clients_work = |shared: &Shared<'_, R, G>, _: usize, side: &mut ClientSide|
-        requires { IsDomain shared.now.domain.now × All IsBuiltClient shared.now.scripts.now × (length shared.now.scripts.now ≡ shared.now.domain.now.clients)
-            × (length side.old.clients.items ≡ shared.now.domain.now.clients) × EachNumbered (IsNewClient shared.now.domain.now) 1 side.old.clients.items
-            × IsNewCloser shared.now.domain.now side.old.closer }
-        ensures { EachDone shared.now.domain.now 1 shared.now.scripts.now side.new.clients.items × HasClosed shared.now.domain.now side.new.clients.items side.new.closer }
+        requires { IsDomain shared.now.monitor.domain.now × All IsBuiltClient shared.now.scripts.now × (length shared.now.scripts.now ≡ shared.now.monitor.domain.now.clients)
+            × (length side.old.clients.items ≡ shared.now.monitor.domain.now.clients) × EachNumbered (IsNewClient shared.now.monitor.domain.now) 1 side.old.clients.items
+            × IsNewCloser shared.now.monitor.domain.now side.old.closer }
+        ensures { EachDone shared.now.monitor.domain.now 1 shared.now.scripts.now side.new.clients.items × HasClosed shared.now.monitor.domain.now side.new.clients.items side.new.closer }
     { clients_then_closing(shared, side) };
     let servers_work = |shared: &Shared<'_, R, G>, _: usize, servers: &mut Vec<ServerWorker<L, T>>|
-        requires { IsDomain shared.now.domain.now × EachNumbered (IsNewServer shared.now.domain.now T.shows) 1 servers.old.items }
-        ensures { EachNumbered (IsOver shared.now.domain.now T.shows) 1 servers.new.items
+        requires { IsDomain shared.now.monitor.domain.now × EachNumbered (IsNewServer shared.now.monitor.domain.now T.shows) 1 servers.old.items }
+        ensures { EachNumbered (IsOver shared.now.monitor.domain.now T.shows) 1 servers.new.items
             × (map (λ w. (T.shows w.served.starter).name) servers.new.items ≡ map (λ w. w.name) servers.old.items) }
     { servers_at_work(shared, servers.as_mut_slice()) };
     both_at_work(

@@ -2,7 +2,7 @@
 ghost use Rattle.std.specs.Prelude.{◌≡◌, ◌+◌, ℕ, List, length, None};
 ghost use Rattle.xa_boot.specs.xa_events.Words.{EachNumbered};
 ghost use Rattle.xa_history.specs.xa_script.declared.script.Client.{Client};
-ghost use Rattle.xa_boot.specs.xa_desk.declared.domain.Domain.{Domain as Standing};
+ghost use Rattle.xa_boot.specs.xa_desk.declared.domain.Domain.{Domain as Shared};
 ghost use Rattle.xa_boot.specs.xa_desk.declared.desk.Desk.{Desk as Place};
 ghost use Rattle.xa_boot.specs.xa_desk.Desks.{IsDomain};
 ghost use Rattle.xa_boot.specs.xa_client_worker.Ending.{here_by};
@@ -87,9 +87,9 @@ fn add_clients<L: Link, T>(domain: &Domain, all: &mut Gathered<L, T>, clients: V
 }
 
 fn add_servers<L: Link, T: Starter<L>>(all: &mut Gathered<L, T>, servers: Vec<ServerWorker<L, T>>)
-    requires may { (d : Standing) × (itself : Leaving) × (desks : List Place) × IsBeforeServers d T.shows itself desks servers.items all.old }
+    requires may { (d : Shared) × (itself : Leaving) × (desks : List Place) × IsBeforeServers d T.shows itself desks servers.items all.old }
     requires space { HasServerSpace (length servers.items) all.old }
-    ensures { (d : Standing) (itself : Leaving) (desks : List Place) → IsBeforeServers d T.shows itself desks servers.items all.old
+    ensures { (d : Shared) (itself : Leaving) (desks : List Place) → IsBeforeServers d T.shows itself desks servers.items all.old
         → HasServers d T.shows itself desks servers.items all.old all.new }
 {
     let mut rest = servers.into_iter();

@@ -1,4 +1,4 @@
-// The events of the machine. Fields stand in the order of the table of events in docs/machine.md.
+// The events of the machine. docs/machine.md says where each stands and when it may come.
 use xa_types::{
     Answer, CallerId, ConvEvent, Data, Fault, Generation, Mode, Name, QueueId, RequestId, Sequence,
     ServerId,

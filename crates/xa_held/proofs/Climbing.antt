@@ -19,7 +19,7 @@ use Rattle.xa_stamp.proofs.Stamps.{last_stamp-push}
 use Rattle.xa_lock.specs.declared.makers.Made.{Made}
 use Rattle.xa_lock.specs.Makers.{noted_in}
 use Rattle.xa_lock.specs.Pages.{StartsWith}
-use Rattle.xa_board.specs.Board.{Standing, ReadsAsNoted, stamp_of, put_of}
+use Rattle.xa_board.specs.Board.{BoardState, ReadsAsNoted, stamp_of, put_of}
 use Rattle.xa_board.specs.Changes.{larger, rows_on}
 use Rattle.xa_board.proofs.Noted.{new-noted}
 use Rattle.xa_held.specs.declared.kept_board.Mark.{Mark}
@@ -95,7 +95,7 @@ none_put : (P : Row → Type 0) (rows : List Row) → map put_of rows ≡ [] →
 none_put P [] none = All-nil P
 none_put P (row ∷ rows) none = absurd (cc none)
 
-pub sound_new : (setup : Setup) (board : Standing) (items : List (Mark × Snapshot Event)) → items ≡ [] → board.entries ≡ [] → board.first.0 ≡ 0 → ReadsAsNoted board → IsSoundBoard (record { board = board; setup = setup; last = record { 0 = 0 }; notes = Opened setup ∷ map note_of items })
+pub sound_new : (setup : Setup) (board : BoardState) (items : List (Mark × Snapshot Event)) → items ≡ [] → board.entries ≡ [] → board.first.0 ≡ 0 → ReadsAsNoted board → IsSoundBoard (record { board = board; setup = setup; last = record { 0 = 0 }; notes = Opened setup ∷ map note_of items })
 sound_new setup board items none entries begins reads =
     let changed : List Stamped → List Event = λ l. reverse (map (λ (x : Stamped). x.event) l) in
     let bare : stamp_of board ≡ board.first.0 = ap (last_stamp board.first) entries in
@@ -144,13 +144,13 @@ module _ (seen : Stamp) (old new : Held) (sound : IsSoundBoard old) (same : new.
       let m : Made = record { maker = maker; noted = record { stamp = noted.stamp; event = noted.event.value } } in
       let bare : Made → Stamped = λ (z : Made). z.noted in
       let later : noted.stamp.0 ≡ larger (raised seen old) old.board + 1 = ap (λ (d : ℕ × Stamp). d.1.0) makes.next in
-      let first : new.board.first ≡ old.board.first = ap (λ (s : Standing). s.first) makes.board in
-      let entries : new.board.entries ≡ old.board.entries ++ record { stamp = noted.stamp; event = event } ∷ [] = ap (λ (s : Standing). s.entries) makes.board in
+      let first : new.board.first ≡ old.board.first = ap (λ (s : BoardState). s.first) makes.board in
+      let entries : new.board.entries ≡ old.board.entries ++ record { stamp = noted.stamp; event = event } ∷ [] = ap (λ (s : BoardState). s.entries) makes.board in
       let above' : old.last.0 < noted.stamp.0 = omega (arith, later) in
       let last : new.last.0 ≡ noted.stamp.0 = ap (λ (s : Stamp). s.0) makes.last in
       record {
         opened = opened_more old new (change maker noted) same notes sound.opened;
-        placed = subst (λ (s : Setup). All (IsPlaced s) new.board.rows) (sym same) (subst (All (IsPlaced old.setup)) (sym (ap (λ (s : Standing). s.rows) makes.board)) placed);
+        placed = subst (λ (s : Setup). All (IsPlaced s) new.board.rows) (sym same) (subst (All (IsPlaced old.setup)) (sym (ap (λ (s : BoardState). s.rows) makes.board)) placed);
         noted = ap (λ l. noted_in (made_in l)) notes ∙ ap noted_in (made_in-append old.notes (change maker noted)) ∙ map-append bare (made_in old.notes) (m ∷ [])
             ∙ ap (λ l. l ++ m.noted ∷ []) sound.noted ∙ ap (λ (e : Event). old.board.entries ++ record { stamp = noted.stamp; event = e } ∷ []) makes.event_is ∙ sym entries;
         begins = ap (λ (f : Stamp). f.0) first ∙ sound.begins;
@@ -158,7 +158,7 @@ module _ (seen : Stamp) (old new : Held) (sound : IsSoundBoard old) (same : new.
             (Climbs-append old.board.first.0 old.notes (By m ∷ []) sound.climbs (omega (arith, sound.latest, above'), tt)));
         latest = ap (λ (f : Stamp). top f.0 new.notes) first ∙ ap (top old.board.first.0) notes ∙ top-append old.board.first.0 old.notes (By m ∷ []) ∙ sym last;
         bound = omega (arith, last, bound);
-        behind = let is : stamp_of new.board ≡ noted.stamp.0 = ap (λ (s : Standing). stamp_of s) makes.board ∙ last_stamp-push old.board.first old.board.entries (record { stamp = noted.stamp; event = event }) in omega (arith, is, last);
+        behind = let is : stamp_of new.board ≡ noted.stamp.0 = ap (λ (s : BoardState). stamp_of s) makes.board ∙ last_stamp-push old.board.first old.board.entries (record { stamp = noted.stamp; event = event }) in omega (arith, is, last);
       }
 
   -- no row stands
@@ -167,17 +167,17 @@ module _ (seen : Stamp) (old new : Held) (sound : IsSoundBoard old) (same : new.
       let look : List BoardNote = Looked its ∷ [] in
       let stamp : Stamp = its.stamp in
       let at : its.before.0 ≡ old.last.0 = ap (λ (s : Stamp). s.0) before in
-      let first : new.board.first ≡ old.board.first = ap (λ (s : Standing). s.first) board in
+      let first : new.board.first ≡ old.board.first = ap (λ (s : BoardState). s.first) board in
       let high : stamp.0 ≡ max seen.0 old.last.0 = ap (λ (s : Stamp). s.0) is in
       let last : new.last.0 ≡ stamp.0 = ap (λ (s : Stamp). s.0) last' in
       record {
         opened = opened_more old new look same notes sound.opened;
-        placed = subst (λ (s : Setup). All (IsPlaced s) new.board.rows) (sym same) (subst (All (IsPlaced old.setup)) (sym (ap (λ (s : Standing). s.rows) board)) sound.placed);
-        noted = ap (λ l. noted_in (made_in l)) notes ∙ ap noted_in (made_in-append old.notes look ∙ append-nil (made_in old.notes)) ∙ sound.noted ∙ sym (ap (λ (s : Standing). s.entries) board);
+        placed = subst (λ (s : Setup). All (IsPlaced s) new.board.rows) (sym same) (subst (All (IsPlaced old.setup)) (sym (ap (λ (s : BoardState). s.rows) board)) sound.placed);
+        noted = ap (λ l. noted_in (made_in l)) notes ∙ ap noted_in (made_in-append old.notes look ∙ append-nil (made_in old.notes)) ∙ sound.noted ∙ sym (ap (λ (s : BoardState). s.entries) board);
         begins = ap (λ (f : Stamp). f.0) first ∙ sound.begins;
         climbs = subst (λ (f : Stamp). Climbs f.0 new.notes) (sym first) (subst (Climbs old.board.first.0) (sym notes)
             (Climbs-append old.board.first.0 old.notes look sound.climbs (omega (arith, sound.latest, high), tt, omega (arith, sound.latest, at))));
         latest = ap (λ (f : Stamp). top f.0 new.notes) first ∙ ap (top old.board.first.0) notes ∙ top-append old.board.first.0 old.notes look ∙ sym last;
         bound = omega (arith, last, high, low, sound.bound);
-        behind = let same : stamp_of new.board ≡ stamp_of old.board = ap (λ (s : Standing). stamp_of s) board in omega (arith, same, last, high, sound.behind);
+        behind = let same : stamp_of new.board ≡ stamp_of old.board = ap (λ (s : BoardState). stamp_of s) board in omega (arith, same, last, high, sound.behind);
       }

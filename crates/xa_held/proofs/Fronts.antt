@@ -21,7 +21,7 @@ use Rattle.xa_lock.specs.Makers.{noted_in, maker_of as made_maker}
 use Rattle.xa_lock.specs.Pages.{StartsWith, Knows, entries_by}
 use Rattle.xa_worker.specs.Seen.{past_in, SawDeserted}
 use Rattle.xa_worker.proofs.Lists.{past_in-append}
-use Rattle.xa_board.specs.Board.{Standing, ReadsAsNoted, past_of, version_of, put_of}
+use Rattle.xa_board.specs.Board.{BoardState, ReadsAsNoted, past_of, version_of, put_of}
 use Rattle.xa_board.specs.Changes.{is_on, rows_on}
 use Rattle.xa_held.specs.declared.kept_board.BoardNote.{BoardNote}
 use Rattle.xa_held.specs.declared.kept_board.BoardNote.TheVariants.{Opened, By, Looked}
@@ -140,7 +140,7 @@ none_on service queue (x ∷ rows) (y ∷ others) same none =
           ∙ none_on service queue rows others rest (sym (ap (λ b. cond b (x ∷ filter (is_on queue) rows) (filter (is_on queue) rows)) not_so) ∙ none)
     ]
 
-no_rows : (setup : Setup) (board : Standing) (queue : ℕ) → ReadsAsNoted board → rows_on queue board.rows ≡ [] → NoRows setup queue (past_of board)
+no_rows : (setup : Setup) (board : BoardState) (queue : ℕ) → ReadsAsNoted board → rows_on queue board.rows ≡ [] → NoRows setup queue (past_of board)
 no_rows setup board queue reads none = λ service. none_on service queue board.rows (rows_of_version setup (past_of board) (version_of board)) (reads.standing setup) none
 
 pub deserted : {A : Type 0} (setup : Setup) (p p' : Page BoardNote) (q : Page (QueueNote A)) (seen later : Stamp) (maker : CallerId) (queue : QueueId) (its : Look) (board : Held) (k : Kept A)
@@ -153,7 +153,7 @@ deserted {A} setup p p' q seen later maker queue its board k visits booted left 
     let how = visits.how in
     let saw : p'.seen ≡ visits.new.notes = visits.saw in
     let front : changes_at p'.seen ≡ visits.new.board.entries = ap changes_at saw ∙ visits.sound.noted in
-    let none : NoRows setup queue.0 (past_of visits.new.board) = no_rows setup visits.new.board queue.0 visits.reads (ap (λ (b : Standing). rows_on queue.0 b.rows) how.2 ∙ how.1) in
+    let none : NoRows setup queue.0 (past_of visits.new.board) = no_rows setup visits.new.board queue.0 visits.reads (ap (λ (b : BoardState). rows_on queue.0 b.rows) how.2 ∙ how.1) in
     let last : top visits.new.board.first.0 visits.new.notes ≡ stamp.0 = visits.sound.latest ∙ ap (λ (s : Stamp). s.0) how.3 in
     let below = below_top visits.new.board.first.0 visits.new.notes visits.sound.climbs in
     let reach : stamp.0 ≡ max seen.0 visits.old.last.0 = ap (λ (s : Stamp). s.0) how.0.raised in

@@ -30,7 +30,7 @@ use Rattle.xa_queue.specs.declared.told.Outgoing.{Outgoing}
 use Rattle.xa_queue.specs.declared.queue.PutRefused.{PutRefused}
 use Rattle.xa_queue.specs.declared.queue.Taken.{Taken}
 use Rattle.xa_queue.specs.declared.queue.Taken.TheVariants.{Request, Empty, Closed}
-use Rattle.xa_queue.specs.Queue.{Standing, IsSound, gives_up, has_server, past_of}
+use Rattle.xa_queue.specs.Queue.{QueueState, IsSound, gives_up, has_server, past_of}
 use Rattle.xa_queue.specs.Reading.{AllNew, Fits, IsNew, IsRead, ReadsAsNoted}
 use Rattle.xa_queue.specs.Changes.{noted, Notes, NotesAs, IsWorn, IsEntry, with_entry, with_gone, TakesAs, Sweeps, IsSwept}
 use Rattle.xa_queue.proofs.Keeping.{All-without}
@@ -82,7 +82,7 @@ module _ {A : Type 0} where
       ap (has_server server) sound.given_up ∙ not_given_up k.clients server maker ours k.queue.entries own (All-cond (IsOther server) (0 == maker) _ (entries_by maker_of maker (map (note {A = A}) k.queue.entries)) others)
 
   module _ (k : Inside A) where
-    abbrev inside : Standing (Cargo A) → Inside A
+    abbrev inside : QueueState (Cargo A) → Inside A
     inside q = record { queue = q; clients = k.clients; cells = k.cells }
 
     abbrev Right : Entry (Cargo A) → Type 0
@@ -91,13 +91,13 @@ module _ {A : Type 0} where
     abbrev Brought : Entry (Cargo A) → Type 0
     Brought entry = IsBrought k.queue.entries entry
 
-    same_kept : (new : Standing (Cargo A)) → new ≡ k.queue → IsKept k → IsKept (inside new)
-    same_kept new same i = subst (λ (q : Standing (Cargo A)). IsKept (inside q)) (sym same) (record { right = i.right; brought = i.brought; last = i.last; owners = i.owners })
+    same_kept : (new : QueueState (Cargo A)) → new ≡ k.queue → IsKept k → IsKept (inside new)
+    same_kept new same i = subst (λ (q : QueueState (Cargo A)). IsKept (inside q)) (sym same) (record { right = i.right; brought = i.brought; last = i.last; owners = i.owners })
 
-    stays : (new : Standing (Cargo A)) {Holds : Kept A → Type 0} → new ≡ k.queue → Holds (kept_of k) → Becomes (kept_of k) (kept_of (inside new)) [] (λ old new. (new ≡ old) × Holds old)
+    stays : (new : QueueState (Cargo A)) {Holds : Kept A → Type 0} → new ≡ k.queue → Holds (kept_of k) → Becomes (kept_of k) (kept_of (inside new)) [] (λ old new. (new ≡ old) × Holds old)
     stays new {Holds} same holds =
-        let whole : Standing (Cargo A) → Kept A = λ q. kept_of (inside q) in
-        record { setting = ap (λ q. setting_of (whole q)) same; entries = ap (λ (q : Standing (Cargo A)). q.entries) same ∙ sym (append-nil k.queue.entries); how = (ap whole same, holds) }
+        let whole : QueueState (Cargo A) → Kept A = λ q. kept_of (inside q) in
+        record { setting = ap (λ q. setting_of (whole q)) same; entries = ap (λ (q : QueueState (Cargo A)). q.entries) same ∙ sym (append-nil k.queue.entries); how = (ap whole same, holds) }
 
     module _ (seen : Stamp) (maker : CallerId) where
       -- what stood there before an event stands there behind it
@@ -106,27 +106,27 @@ module _ {A : Type 0} where
           (λ entry b. record { entry_is = b.entry_is; stands = Contains-append_left k.queue.entries (one maker stamp event) b.entry_is b.stands; brings = b.brings }) waiting all
 
       -- the queue with what is left of it
-      abbrev moved : Standing (Cargo A) → Standing (Cargo A)
+      abbrev moved : QueueState (Cargo A) → QueueState (Cargo A)
       moved left = record k.queue { waiting = left.waiting; takes = left.takes; down = left.down; closed = left.closed; gone = left.gone }
 
       -- what a setup says behind one more event, by what it says of the queue before
-      behind : (stamp : Stamp) (e : Event) (left : Standing (Cargo A)) (x : Entry (Cargo A))
+      behind : (stamp : Stamp) (e : Event) (left : QueueState (Cargo A)) (x : Entry (Cargo A))
           → ((setup : Setup) → Fits setup k.queue → AllNew setup k.queue.id.0 (e ∷ past_of k.queue) → IsSomeAnd (latest (is_entry_of x.request) (e ∷ past_of k.queue)) (Brings x.request x.cargo.invocation)) → IsSentLast (noted stamp maker e (moved left)) x
       behind stamp e left x says setup fits new =
           let past : past_of (noted stamp maker e (moved left)) ≡ e ∷ past_of k.queue = past-noted stamp maker e (moved left) in
           subst (λ (p : List Event). IsSomeAnd (latest (is_entry_of x.request) p) (Brings x.request x.cargo.invocation)) (sym past) (says setup (record { capacity = fits.capacity; servers = fits.servers }) (subst (AllNew setup k.queue.id.0) past new))
 
       -- an event that doesn't send its request leaves an entry as it was sent last
-      still_last : (stamp : Stamp) (e : Event) (left : Standing (Cargo A)) (x : Entry (Cargo A)) → ((setup : Setup) → Fits setup k.queue → AllNew setup k.queue.id.0 (e ∷ past_of k.queue) → is_entry_of x.request e ≡ false) → IsSentLast k.queue x
+      still_last : (stamp : Stamp) (e : Event) (left : QueueState (Cargo A)) (x : Entry (Cargo A)) → ((setup : Setup) → Fits setup k.queue → AllNew setup k.queue.id.0 (e ∷ past_of k.queue) → is_entry_of x.request e ≡ false) → IsSentLast k.queue x
           → IsSentLast (noted stamp maker e (moved left)) x
       still_last stamp e left x other last = behind stamp e left x (λ setup fits new. subst (λ (o : Option Event). IsSomeAnd o (Brings x.request x.cargo.invocation)) (sym (latest_no (is_entry_of x.request) e (past_of k.queue) (other setup fits new))) (last setup fits new.1))
 
-      all_last : (stamp : Stamp) (e : Event) (left : Standing (Cargo A)) → ((r : RequestId) → is_entry_of r e ≡ false) → All (IsSentLast k.queue) left.waiting → All (IsSentLast (noted stamp maker e (moved left))) left.waiting
+      all_last : (stamp : Stamp) (e : Event) (left : QueueState (Cargo A)) → ((r : RequestId) → is_entry_of r e ≡ false) → All (IsSentLast k.queue) left.waiting → All (IsSentLast (noted stamp maker e (moved left))) left.waiting
       all_last stamp e left other last = All-weaker (IsSentLast k.queue) (IsSentLast (noted stamp maker e (moved left))) (λ x was. still_last stamp e left x (λ setup fits new. other x.request) was) left.waiting last
 
-      one_kept : (stamp : Stamp) (event : Event) (left new : Standing (Cargo A)) → Notes seen maker stamp event left new k.queue → left ≡ moved left → All Right left.waiting → All (IsBrought (k.queue.entries ++ one maker stamp event)) left.waiting → All (IsSentLast (noted stamp maker event (moved left))) left.waiting
+      one_kept : (stamp : Stamp) (event : Event) (left new : QueueState (Cargo A)) → Notes seen maker stamp event left new k.queue → left ≡ moved left → All Right left.waiting → All (IsBrought (k.queue.entries ++ one maker stamp event)) left.waiting → All (IsSentLast (noted stamp maker event (moved left))) left.waiting
           → gives_itself_up k.clients maker.0 event → IsKept k → IsKept (inside new)
-      one_kept stamp event left new n same right brought last own i = subst (λ (q : Standing (Cargo A)). IsKept (inside q)) (sym n.made) (subst (λ (l : Standing (Cargo A)). IsKept (inside (noted stamp maker event l))) (sym same) (record {
+      one_kept stamp event left new n same right brought last own i = subst (λ (q : QueueState (Cargo A)). IsKept (inside q)) (sym n.made) (subst (λ (l : QueueState (Cargo A)). IsKept (inside (noted stamp maker event l))) (sym same) (record {
         right = right;
         brought = brought;
         last = last;
@@ -134,7 +134,7 @@ module _ {A : Type 0} where
       }))
 
       -- where none comes and none leaves
-      pub quiet_kept : (noted : Noted) (event : Event) (left new : Standing (Cargo A)) → NotesAs seen maker noted event left new k.queue → left ≡ moved left → left.waiting ≡ k.queue.waiting → ((r : RequestId) → is_entry_of r event ≡ false) → gives_itself_up k.clients maker.0 event → IsKept k → IsKept (inside new)
+      pub quiet_kept : (noted : Noted) (event : Event) (left new : QueueState (Cargo A)) → NotesAs seen maker noted event left new k.queue → left ≡ moved left → left.waiting ≡ k.queue.waiting → ((r : RequestId) → is_entry_of r event ≡ false) → gives_itself_up k.clients maker.0 event → IsKept k → IsKept (inside new)
       quiet_kept noted event left new n same waits other own i =
           one_kept noted.stamp event left new n.notes same (subst (All Right) (sym waits) i.right) (still noted.stamp event left.waiting (subst (All Brought) (sym waits) i.brought)) (all_last noted.stamp event left other (subst (All (IsSentLast k.queue)) (sym waits) i.last)) own i
 
@@ -162,7 +162,7 @@ module _ {A : Type 0} where
           (λ n d within. still_last stamp event left (get_or k.queue.waiting n d) (λ setup fits new. apart setup entry event its (reads.reads setup fits new.1) new.0 n d within) (last n d within))
           (behind stamp event left entry (λ setup fits new. subst (λ (o : Option Event). IsSomeAnd o (Brings entry.request entry.cargo.invocation)) (sym (latest_yes (is_entry_of entry.request) event (past_of k.queue) here)) brings))
 
-      pub put_kept : (event : Event) (entry : Entry (Cargo A)) (r : Result Stamp (PutRefused (Cargo A))) (new : Standing (Cargo A)) → IsEntry k.queue.id entry event → Right entry → Brings entry.request entry.cargo.invocation event → ReadsAsNoted k.queue
+      pub put_kept : (event : Event) (entry : Entry (Cargo A)) (r : Result Stamp (PutRefused (Cargo A))) (new : QueueState (Cargo A)) → IsEntry k.queue.id entry event → Right entry → Brings entry.request entry.cargo.invocation event → ReadsAsNoted k.queue
           → IfOk r (λ stamp. Notes seen maker stamp event (with_entry entry k.queue) new k.queue) → OnErr r (new ≡ k.queue) → IsKept k → IsKept (inside new)
       put_kept event entry (Ok stamp) new its right brings reads n same i =
           let m : Made = record { maker = maker; noted = record { stamp = stamp; event = event } } in
@@ -172,7 +172,7 @@ module _ {A : Type 0} where
       put_kept event entry (Err back) new its right brings reads n same i = same_kept new same i
 
       module _ (server : ServerId) (generation : Generation) where
-        pub take_kept : (r : Result (Taken (Cargo A)) Worn) (new : Standing (Cargo A)) → IfOk r (λ taken. TakesAs seen maker server generation taken new k.queue) → IfErr r (λ worn. IsWorn seen worn new k.queue) → IsKept k → IsKept (inside new)
+        pub take_kept : (r : Result (Taken (Cargo A)) Worn) (new : QueueState (Cargo A)) → IfOk r (λ taken. TakesAs seen maker server generation taken new k.queue) → IfErr r (λ worn. IsWorn seen worn new k.queue) → IsKept k → IsKept (inside new)
         take_kept (Ok (Request out)) new n w i = one_kept out.noted.stamp _ (record k.queue { waiting = n.front ++ n.back; takes = k.queue.takes + 1 }) new n.noted.notes refl (All-without Right n.front out.entry n.back (subst (All Right) n.waited i.right)) (still out.noted.stamp _ (n.front ++ n.back) (All-without Brought n.front out.entry n.back (subst (All Brought) n.waited i.brought)))
             (all_last out.noted.stamp _ (record k.queue { waiting = n.front ++ n.back; takes = k.queue.takes + 1 }) (λ r. refl) (All-without (IsSentLast k.queue) n.front out.entry n.back (subst (All (IsSentLast k.queue)) n.waited i.last))) tt i
         take_kept (Ok Empty) new n w i = same_kept new n.same i
@@ -183,25 +183,25 @@ module _ {A : Type 0} where
         middle P [] x back all = All-head P x back all
         middle P (y ∷ front) x back all = middle P front x back (All-tail P y (front ++ x ∷ back) all)
 
-        pub took : (r : Result (Taken (Cargo A)) Worn) (new : Standing (Cargo A)) → IfOk r (λ taken. TakesAs seen maker server generation taken new k.queue) → IfErr r (λ worn. IsWorn seen worn new k.queue) → OnErr r (0 < length k.queue.waiting) → IsKept k
+        pub took : (r : Result (Taken (Cargo A)) Worn) (new : QueueState (Cargo A)) → IfOk r (λ taken. TakesAs seen maker server generation taken new k.queue) → IfErr r (λ worn. IsWorn seen worn new k.queue) → OnErr r (0 < length k.queue.waiting) → IsKept k
             → TookAs (Becomes (kept_of k) (kept_of (inside new))) seen maker server generation r
         took (Ok (Request out)) new n w some i =
             let q = k.queue in
             let x : Event → Made = λ e. record { maker = maker; noted = record { stamp = out.noted.stamp; event = e } } in
             record {
-              setting = ap (λ (z : Standing (Cargo A)). record { id = z.id; capacity = z.capacity; servers = z.servers; first = z.first; clients = k.clients; cells = k.cells.value }) n.noted.notes.made;
-              entries = ap (λ (z : Standing (Cargo A)). z.entries) n.noted.notes.made ∙ ap (λ e. q.entries ++ x e ∷ []) (sym n.noted.event_is);
+              setting = ap (λ (z : QueueState (Cargo A)). record { id = z.id; capacity = z.capacity; servers = z.servers; first = z.first; clients = k.clients; cells = k.cells.value }) n.noted.notes.made;
+              entries = ap (λ (z : QueueState (Cargo A)). z.entries) n.noted.notes.made ∙ ap (λ e. q.entries ++ x e ∷ []) (sym n.noted.event_is);
               how = (n, middle Right n.front out.entry n.back (subst (All Right) n.waited i.right), middle Brought n.front out.entry n.back (subst (All Brought) n.waited i.brought), middle (IsSentLast q) n.front out.entry n.back (subst (All (IsSentLast q)) n.waited i.last));
             }
         took (Ok Empty) new n w some i = stays new n.same (n.none, n.closed)
         took (Ok Closed) new n w some i = stays new n.same (n.none, n.closed)
         took (Err worn) new n w some i = stays new w.same (record { larger = w.larger; told = w.told; same = refl }, some)
 
-      pub gone_kept : (server : ServerId) (r : Result GivenUp Worn) (new : Standing (Cargo A)) → maker.0 ≡ k.clients + server.0 → IfOk r (λ done. NotesAs seen maker done.noted (Gone server) (with_gone server k.queue) new k.queue) → IfErr r (λ worn. IsWorn seen worn new k.queue) → IsKept k → IsKept (inside new)
+      pub gone_kept : (server : ServerId) (r : Result GivenUp Worn) (new : QueueState (Cargo A)) → maker.0 ≡ k.clients + server.0 → IfOk r (λ done. NotesAs seen maker done.noted (Gone server) (with_gone server k.queue) new k.queue) → IfErr r (λ worn. IsWorn seen worn new k.queue) → IsKept k → IsKept (inside new)
       gone_kept server (Ok done) new ours n w i = quiet_kept done.noted (Gone server) (with_gone server k.queue) new n refl refl (λ r. refl) ours i
       gone_kept server (Err worn) new ours n w i = same_kept new w.same i
 
-      pub sweep_kept : (r : Result (Option (Outgoing (Cargo A))) Worn) (new : Standing (Cargo A)) → IfOk r (λ swept. MatchOption swept (IsSwept new k.queue) (λ out. Sweeps seen maker out new k.queue)) → IfErr r (λ worn. IsWorn seen worn new k.queue) → IsKept k → IsKept (inside new)
+      pub sweep_kept : (r : Result (Option (Outgoing (Cargo A))) Worn) (new : QueueState (Cargo A)) → IfOk r (λ swept. MatchOption swept (IsSwept new k.queue) (λ out. Sweeps seen maker out new k.queue)) → IfErr r (λ worn. IsWorn seen worn new k.queue) → IsKept k → IsKept (inside new)
       sweep_kept (Ok None) new n w i = same_kept new n.same i
       sweep_kept (Ok (Some out)) new n w i = one_kept out.noted.stamp _ (record k.queue { waiting = n.rest }) new n.noted.notes refl (All-tail Right out.entry n.rest (subst (All Right) n.waited i.right)) (still out.noted.stamp _ n.rest (All-tail Brought out.entry n.rest (subst (All Brought) n.waited i.brought)))
           (all_last out.noted.stamp _ (record k.queue { waiting = n.rest }) (λ r. refl) (All-tail (IsSentLast k.queue) out.entry n.rest (subst (All (IsSentLast k.queue)) n.waited i.last))) tt i

@@ -4,7 +4,7 @@ use Rattle.std.specs.Prelude.{if◌then◌else◌}
 use Rattle.xa_types.specs.declared.stamp.Stamp.{Stamp}
 use Rattle.xa_queue.specs.declared.queue.Refusal.{Refusal}
 use Rattle.xa_queue.specs.declared.queue.Refusal.TheVariants as refusals
-use Rattle.xa_queue.specs.Queue.{Standing}
+use Rattle.xa_queue.specs.Queue.{QueueState}
 use Rattle.xa_queue.specs.Changes.{larger, put_refused}
 
 abbrev pub Why : Bool → Bool → Bool → Bool → ℕ → Stamp → Refusal → Type 0
@@ -23,8 +23,8 @@ why_is false false false true n worn why is = let same : refusals.Worn worn ≡ 
 why_is false false false false n worn why is = absurd (cc is)
 
 -- it was down, closed or full, or its stamps were at their end, where that one was seen
-abbrev pub WhyOf : {C : Type 0} → Stamp → Standing C → Refusal → Type 0
+abbrev pub WhyOf : {C : Type 0} → Stamp → QueueState C → Refusal → Type 0
 WhyOf seen q why = Why q.down q.closed (length q.waiting == q.capacity) (larger seen q == 2 ^ 63) (length q.waiting) (record { 0 = 2 ^ 63 }) why
 
-pub why_refused : {C : Type 0} (seen : Stamp) (q : Standing C) (why : Refusal) → put_refused seen q ≡ Some why → WhyOf seen q why
+pub why_refused : {C : Type 0} (seen : Stamp) (q : QueueState C) (why : Refusal) → put_refused seen q ≡ Some why → WhyOf seen q why
 why_refused seen q why is = why_is q.down q.closed (length q.waiting == q.capacity) (larger seen q == 2 ^ 63) (length q.waiting) (record { 0 = 2 ^ 63 }) why is

@@ -27,7 +27,7 @@ use Rattle.xa_lock.specs.declared.pass.Page.{Page}
 use Rattle.xa_lock.specs.Pages.{StartsWith}
 use Rattle.xa_worker.specs.Seen.{past_in, SawFront}
 use Rattle.xa_cell.proofs.Lists.{below}
-use Rattle.xa_board.specs.Board.{Standing, ReadsAsNoted, IsAsConfigured, past_of, version_of, stamp_of, put_of, rows_seen}
+use Rattle.xa_board.specs.Board.{BoardState, ReadsAsNoted, IsAsConfigured, past_of, version_of, stamp_of, put_of, rows_seen}
 use Rattle.xa_board.specs.Reader.{Finds}
 use Rattle.xa_board.proofs.Noted.{rows_of_version-last}
 use Rattle.xa_board.proofs.Listed.{rows-configured, rows_seen-listed}
@@ -132,7 +132,7 @@ across setup whole (x ∷ standing) (y ∷ others) same found configured =
     All-cons (Stands setup whole) x standing (here ∙ All-head (Finds-in whole) y others found ∙ ap (λ (r : Row). Some r) (All-head (IsAsConfigured setup) y others configured ∙ sym put))
     (across setup whole standing others rest (All-tail (Finds-in whole) y others found) (All-tail (IsAsConfigured setup) y others configured))
 
-stands-all : (setup : Setup) (board : Standing) → ReadsAsNoted board → All (Stands setup (rows_of_version setup (past_of board) (version_of board))) board.rows
+stands-all : (setup : Setup) (board : BoardState) → ReadsAsNoted board → All (Stands setup (rows_of_version setup (past_of board) (version_of board))) board.rows
 stands-all setup board reads =
     let last = rows_of_version-last setup (past_of board) in
     let made = changes (past_of board) in
@@ -207,7 +207,7 @@ module _ (p p' : Page BoardNote) (now : List BoardNote) (name : List ℕ) (wante
             (λ (none : found.version ≤ 0). let length_is = visits.reads.changes in let version_is = ap version_of same in
             subst (All (λ (x : Stamped). x.stamp.0 < stamp.0)) (sym (front ∙ nil_from_length visits.new.board.entries (omega (arith, none, length_is, version_is, visits.how.1)))) (All-nil (λ (x : Stamped). x.stamp.0 < stamp.0)))
             (below 0 found.version);
-        shows = subst (λ (l : List Stamped). P (past_in l)) (sym front) (subst (λ (b : Standing). P (past_of b)) (sym same) shows);
+        shows = subst (λ (l : List Stamped). P (past_in l)) (sym front) (subst (λ (b : BoardState). P (past_of b)) (sym same) shows);
       }
 
   pub found_grows : Looks → published (past_in (changes_at p.seen)) ≤ found.version
@@ -224,7 +224,7 @@ module _ (p p' : Page BoardNote) (now : List BoardNote) (name : List ℕ) (wante
   all_placed setup visits sees =
       let is : visits.new.setup ≡ setup = visits.same ∙ visits.setup setup sees in
       let same : visits.new.board ≡ visits.old.board = ap (λ (h : Held). h.board) visits.how.0 in
-      subst (λ (b : Standing). All (IsPlaced setup) b.rows) same (subst (λ (s : Setup). All (IsPlaced s) visits.new.board.rows) is visits.sound.placed)
+      subst (λ (b : BoardState). All (IsPlaced setup) b.rows) same (subst (λ (s : Setup). All (IsPlaced s) visits.new.board.rows) is visits.sound.placed)
 
   as_configured : (setup : Setup) (visits : Looks) → SeesBoard setup p → All (IsAsConfigured setup) visits.old.board.rows
   as_configured setup visits sees = All-weaker (IsPlaced setup) (IsAsConfigured setup) (λ row is. is.configured) visits.old.board.rows (all_placed setup visits sees)
@@ -242,7 +242,7 @@ module _ (p p' : Page BoardNote) (now : List BoardNote) (name : List ℕ) (wante
 
   pub found_listed : (setup : Setup) → Looks → SeesBoard setup p → StartsWith now p'.seen → (0 < found.version → found.stamp.0 < stamp.0) → SawFront (changes_at now) stamp (λ past. (found.version ≤ published past) × (listed_in setup past found.version name wanted ≡ found.rows))
   found_listed setup visits sees begins less =
-      let board : Standing = visits.old.board in
+      let board : BoardState = visits.old.board in
       let same : visits.new.board ≡ board = ap (λ (h : Held). h.board) visits.how.0 in
       let seen : rows_seen name wanted board.rows ≡ listed_in setup (past_of board) (version_of board) name wanted = rows_seen-listed setup board (subst ReadsAsNoted same visits.reads) (as_configured setup visits sees) name wanted in
       saw (λ past. (found.version ≤ published past) × (listed_in setup past found.version name wanted ≡ found.rows)) visits begins less
@@ -252,7 +252,7 @@ module _ (p p' : Page BoardNote) (now : List BoardNote) (name : List ℕ) (wante
       → All (λ row. RowAdmits setup conversational routine payload (row_for setup row.service row.queue.0 row.routine) → SawFront (changes_at now) stamp (RowStands setup found.version row.service row.queue.0 (RowAdmits setup conversational routine payload))) found.rows
   found_stands setup conversational routine payload visits begins less =
       let P : Row → Type 0 = RowAdmits setup conversational routine payload in
-      let board : Standing = visits.old.board in
+      let board : BoardState = visits.old.board in
       let same : visits.new.board ≡ board = ap (λ (h : Held). h.board) visits.how.0 in
       let reads : ReadsAsNoted board = subst ReadsAsNoted same visits.reads in
       let whole : List Row = rows_of_version setup (past_of board) (version_of board) in

@@ -7,13 +7,13 @@ use Rattle.xa_types.specs.declared.stamp.Stamp.{Stamp}
 use Rattle.xa_lock.specs.declared.makers.Made.{Made}
 use Rattle.xa_lock.specs.Makers.{noted_in}
 use Rattle.xa_lock.specs.Pages.{StartsWith}
-use Rattle.xa_board.specs.Board.{Standing, IsAsConfigured, stamp_of}
+use Rattle.xa_board.specs.Board.{BoardState, IsAsConfigured, stamp_of}
 use Rattle.xa_held.specs.declared.kept_board.BoardNote.{BoardNote}
 use Rattle.xa_held.specs.declared.kept_board.BoardNote.TheVariants.{Opened, By, Looked}
 
 -- what it is: the board, the setup that its rows are by, the greatest stamp of a change or a look, and its home as its lock knows it
 pub record Held : Type 0 where
-  pub board : Standing
+  pub board : BoardState
   pub setup : Setup
   pub last : Stamp
   pub notes : List BoardNote

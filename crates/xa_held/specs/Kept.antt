@@ -14,7 +14,7 @@ use Rattle.xa_events.specs.Request.{is_entry_of}
 use Rattle.xa_frame.specs.Spelling.{IsData}
 use Rattle.xa_lock.specs.declared.makers.Made.{Made}
 use Rattle.xa_queue.specs.declared.entry.Entry.{Entry}
-use Rattle.xa_queue.specs.Queue.{Standing, past_of}
+use Rattle.xa_queue.specs.Queue.{QueueState, past_of}
 use Rattle.xa_queue.specs.Reading.{AllNew, Fits}
 use Rattle.xa_held.specs.declared.cargo.Cargo.{Cargo}
 use Rattle.xa_held.specs.declared.cargo.Invocation.{Invocation}
@@ -24,7 +24,7 @@ use Rattle.xa_held.specs.declared.kept_queue.QueueNote.TheVariants.{Opened, By}
 
 -- what it is: the queue, how many clients there are, and the cells of which its entries have tickets
 pub record Kept (A : Type 0) : Type 0 where
-  pub queue : Standing (Cargo A)
+  pub queue : QueueState (Cargo A)
   pub clients : ℕ
   pub cells : Cells A
 
@@ -50,7 +50,7 @@ module _ {A : Type 0} where
     pub brings : Brings entry.request entry.cargo.invocation entry_is.noted.event
 
   -- if no request was sent there while it waited there, the entry is how its request was sent there last
-  abbrev pub IsSentLast : Standing (Cargo A) → Entry (Cargo A) → Type 0
+  abbrev pub IsSentLast : QueueState (Cargo A) → Entry (Cargo A) → Type 0
   IsSentLast q entry = (setup : Setup) → Fits setup q → AllNew setup q.id.0 (past_of q) → IsSomeAnd (latest (is_entry_of entry.request) (past_of q)) (Brings entry.request entry.cargo.invocation)
 
   -- what it is from its beginning to its end

@@ -22,8 +22,8 @@ use Rattle.xa_client_worker.specs.xa_frame.declared.frame.Frame.{Frame}
 use Rattle.xa_client_worker.specs.xa_pipe.Following.{IsSent}
 use Rattle.xa_client_worker.specs.xa_pipe.Frames.{is_of_life, is_take_in, invocation}
 use Rattle.xa_client_worker.specs.xa_pipe.Pipe.{invoke_frame}
-use Rattle.xa_client_worker.specs.xa_pipe.Standing.{Standing as Life}
-use Rattle.xa_client_worker.specs.xa_worker.Work.{Standing as Working, theirs}
+use Rattle.xa_client_worker.specs.xa_pipe.Standing.{LifeState}
+use Rattle.xa_client_worker.specs.xa_worker.Work.{WorkState, theirs}
 use Rattle.xa_client_worker.specs.xa_desk.declared.domain.Domain.{Domain}
 use Rattle.xa_client_worker.specs.xa_desk.declared.desk.Desk.{Desk}
 use Rattle.xa_client_worker.specs.xa_desk.Whole.{entries_of}
@@ -80,7 +80,7 @@ module _ (clients server g : ℕ) (asked : List Frame) where
       ∙ (sym (ap (λ (n : ℕ). invoke_frame what.service what.routine n what.payload ∷ []) (same_number t before))
       ∙ (sym h.2 ∙ ap (λ (n : ℕ). take 1 (drop n asked)) (taken_own clients server g before)))
 
-module _ (d : Domain) (b : Back) (domain : Working) (desks : List Desk) (servers : List ServerEnd) (homes : List Notes) (Whole : Type 0) (ends : Ends d b domain desks servers homes Whole) (events : List Event) (merged : IsMerged homes events) where
+module _ (d : Domain) (b : Back) (domain : WorkState) (desks : List Desk) (servers : List ServerEnd) (homes : List Notes) (Whole : Type 0) (ends : Ends d b domain desks servers homes Whole) (events : List Event) (merged : IsMerged homes events) where
   abbrev past : List Event
   past = reverse events
 
@@ -119,7 +119,7 @@ module _ (d : Domain) (b : Back) (domain : Working) (desks : List Desk) (servers
       takes_sent = AtEach-splits (IsSent server g asked) past sent_at
 
     -- and just these were due
-    pub life_asked : (life : Life) → HandsOn d queue server shows.desk life → HasAsked server past life
+    pub life_asked : (life : LifeState) → HandsOn d queue server shows.desk life → HasAsked server past life
     life_asked life hands =
         let g : ℕ = life.generation.0 in
         let takes : count (is_take_in server g) past ≡ length life.asked = sym (taken_own d.clients server g past) ∙ (ap (count (is_take_in server g)) shows.own ∙ hands.taken) in

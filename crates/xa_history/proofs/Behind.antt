@@ -40,7 +40,7 @@ use Rattle.xa_client_worker.specs.xa_cell.declared.view.Part.{Part}
 use Rattle.xa_client_worker.specs.xa_cell.Known.{known}
 use Rattle.xa_client_worker.specs.xa_cell.Views.{at}
 use Rattle.xa_client_worker.specs.xa_cell.Law.{parts_of}
-use Rattle.xa_client_worker.specs.xa_worker.Work.{Standing as Working}
+use Rattle.xa_client_worker.specs.xa_worker.Work.{WorkState}
 use Rattle.xa_client_worker.proofs.xa_worker.Noting.{not_theirs}
 use Rattle.xa_client_worker.specs.xa_caller.declared.cargo.Filling.{Filling}
 use Rattle.xa_client_worker.specs.xa_server.Told.{Settles, IsEnded, EndedFor}
@@ -236,7 +236,7 @@ all_by_number P xs each k default low = let one = one_there xs k low in subst P 
 same_request : (a : Replied) (request : RequestId) (entry : Event) (reply : Reply) → request ≡ a.request → IsSomeAnd (settlement_in request entry) (λ (s : Settlement). reply ≡ reply_of s) → IsSomeAnd (settlement_in a.request entry) (λ (s : Settlement). reply ≡ reply_of s)
 same_request a request entry reply is tells = subst (λ (r : RequestId). IsSomeAnd (settlement_in r entry) (λ (s : Settlement). reply ≡ reply_of s)) is tells
 
-module _ {W : Type 0} (d : Domain) (b : Back) (domain : Working) (desks : List Desk) (servers : List ServerEnd) (homes : List Notes) (ends : Ends d b domain desks servers homes W) where
+module _ {W : Type 0} (d : Domain) (b : Back) (domain : WorkState) (desks : List Desk) (servers : List ServerEnd) (homes : List Notes) (ends : Ends d b domain desks servers homes W) where
   abbrev all : AllLeft d b domain desks
   all = ends.left
 

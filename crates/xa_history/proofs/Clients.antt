@@ -14,7 +14,7 @@ use Rattle.xa_client_worker.specs.xa_worker.Calls.{MadeOwn}
 use Rattle.xa_client_worker.specs.xa_worker.Ending.{list_in}
 use Rattle.xa_client_worker.specs.xa_worker.Seen.{past_in}
 use Rattle.xa_client_worker.specs.xa_worker.Going.{FitEach}
-use Rattle.xa_client_worker.specs.xa_worker.Work.{Standing as Working}
+use Rattle.xa_client_worker.specs.xa_worker.Work.{WorkState}
 use Rattle.xa_client_worker.specs.xa_desk.declared.domain.Domain.{Domain}
 use Rattle.xa_client_worker.specs.xa_desk.declared.desk.Desk.{Desk}
 use Rattle.xa_client_worker.specs.xa_desk.Whole.{entries_of}
@@ -24,11 +24,11 @@ use Rattle.xa_history.proofs.Left.{same_homes}
 use Rattle.xa_history.proofs.Going.{one_goes_on}
 
 -- what a caller noted is what its desk has
-pub noted_is : (domain : Working) (desks : List Desk) (client : ℕ) (desk : Desk) → numbered client desks ≡ Some desk → noted_of domain desks client ≡ desk.caller.work.own
+pub noted_is : (domain : WorkState) (desks : List Desk) (client : ℕ) (desk : Desk) → numbered client desks ≡ Some desk → noted_of domain desks client ≡ desk.caller.work.own
 noted_is domain desks zero desk there = absurd (cc there)
 noted_is domain desks (suc n) desk there = ap (λ (o : Option Desk). list_in (option_map (λ (desk : Desk). desk.caller.work.own) o)) there
 
-pub made_own : (d : Domain) (b : Back) (domain : Working) (desks : List Desk) → AllLeft d b domain desks → (client : ℕ) (desk : Desk) → numbered client desks ≡ Some desk → (ops : List Op) → FitsCalls d ops desk
+pub made_own : (d : Domain) (b : Back) (domain : WorkState) (desks : List Desk) → AllLeft d b domain desks → (client : ℕ) (desk : Desk) → numbered client desks ≡ Some desk → (ops : List Op) → FitsCalls d ops desk
     → last_op client (worker_events d.clients client (past_in desk.caller.work.own)) ≡ length ops → awaits_answer ops (newest_call client (worker_events d.clients client (past_in desk.caller.work.own))) ≡ false
     → MadeOwn d.setup d.clients (λ home. noted_in (kept_of b home)) client ops (noted_of domain desks client)
 made_own d b domain desks all client desk there ops fits whole over =

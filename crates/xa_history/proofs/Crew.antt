@@ -26,7 +26,7 @@ use Rattle.xa_client_worker.specs.xa_held.declared.kept_board.BoardNote.{BoardNo
 use Rattle.xa_client_worker.specs.xa_held.declared.kept_board.BoardNote.TheVariants.{Opened, By, Looked}
 use Rattle.xa_client_worker.specs.xa_held.Board.{Climbs, top, made_in}
 use Rattle.xa_client_worker.specs.xa_held.Kept.{Kept}
-use Rattle.xa_client_worker.specs.xa_worker.Work.{Standing as Working}
+use Rattle.xa_client_worker.specs.xa_worker.Work.{WorkState}
 use Rattle.xa_client_worker.specs.xa_caller.declared.cargo.Filling.{Filling}
 use Rattle.xa_client_worker.specs.xa_desk.declared.domain.Domain.{Domain}
 use Rattle.xa_client_worker.specs.xa_desk.declared.desk.Desk.{Desk}
@@ -70,7 +70,7 @@ each-weaker P Q from (x ∷ past) each = (from x past each.0, each-weaker P Q fr
 past_of : (older : List Stamped) → past_in (reverse older) ≡ map (λ (y : Stamped). y.event) older
 past_of older = sym (map-reverse (λ (y : Stamped). y.event) (reverse older)) ∙ ap (map (λ (y : Stamped). y.event)) (reverse-reverse older)
 
-module _ (d : Domain) (b : Back) (domain : Working) (desks : List Desk) (all : AllLeft d b domain desks) where
+module _ (d : Domain) (b : Back) (domain : WorkState) (desks : List Desk) (all : AllLeft d b domain desks) where
   abbrev pub workers : ℕ
   workers = workers_of d.setup d.clients
 

@@ -20,7 +20,7 @@ use Rattle.xa_client_worker.specs.xa_held.declared.kept_queue.QueueNote.{QueueNo
 use Rattle.xa_client_worker.specs.xa_held.Board.{maker_of as change_maker}
 use Rattle.xa_client_worker.specs.xa_held.Kept.{notes_of}
 use Rattle.xa_client_worker.specs.xa_held.Notes.{maker_of}
-use Rattle.xa_client_worker.specs.xa_worker.Work.{Standing as Working}
+use Rattle.xa_client_worker.specs.xa_worker.Work.{WorkState}
 use Rattle.xa_client_worker.specs.xa_caller.declared.cargo.Filling.{Filling}
 use Rattle.xa_client_worker.specs.xa_server.Fillings.{EndsAt, HasEnd, AllEnded}
 use Rattle.xa_client_worker.proofs.xa_server.Joining.{taken_ended}
@@ -42,7 +42,7 @@ front_in maker entries (Some pass) knows = knows.1
 none_answered : (entries : Whole) (fill : Fill Filling) → fill.answer.answer ≡ None → HasEnd (entries_of entries) fill
 none_answered whole fill none = subst (λ (o : Option Answer). IfSome o (EndsAt (entries_of whole) fill.opening.request fill.answer.stamp)) (sym none) tt
 
-module _ (d : Domain) (b : Back) (domain : Working) (desks : List Desk) (all : AllLeft d b domain desks) where
+module _ (d : Domain) (b : Back) (domain : WorkState) (desks : List Desk) (all : AllLeft d b domain desks) where
   abbrev whole : Whole
   whole = whole_of d b
 

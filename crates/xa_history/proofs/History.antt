@@ -33,7 +33,7 @@ use Rattle.xa_client_worker.specs.xa_worker.Seen.{past_in, SawFront, SawQueue}
 use Rattle.xa_client_worker.proofs.xa_worker.Joined.{client_made_calls, own_events, own_home, takes_in_order}
 use Rattle.xa_client_worker.proofs.xa_worker.Over.{crew_is_final}
 use Rattle.xa_client_worker.specs.xa_held.Kept.{Kept}
-use Rattle.xa_client_worker.specs.xa_worker.Work.{Standing as Working, theirs}
+use Rattle.xa_client_worker.specs.xa_worker.Work.{WorkState, theirs}
 use Rattle.xa_client_worker.specs.xa_caller.declared.cargo.Filling.{Filling}
 use Rattle.xa_script.specs.declared.script.Client.{Client}
 use Rattle.xa_client_worker.specs.xa_desk.declared.domain.Domain.{Domain}
@@ -92,7 +92,7 @@ left_among client own x here leaves =
     list_any-reverse (is_leave_of client) (map (λ (y : Stamped). y.event) own)
     ∙ (list_any-map (is_leave_of client) (λ (y : Stamped). y.event) own ∙ list_any-from_Any (λ (y : Stamped). is_leave_of client y.event) own (here.0, x, here.1, here.2, leaves))
 
-module _ (d : Domain) (b : Back) (domain : Working) (desks : List Desk) (all : AllLeft d b domain desks) where
+module _ (d : Domain) (b : Back) (domain : WorkState) (desks : List Desk) (all : AllLeft d b domain desks) where
   abbrev held : Home → List Stamped
   held home = noted_in (kept_of b home)
 
@@ -192,7 +192,7 @@ module _ (d : Domain) (b : Back) (domain : Working) (desks : List Desk) (all : A
 
 -- ---- where the run came to its end
 
-module _ (d : Domain) (b : Back) (domain : Working) (desks : List Desk) (servers : List ServerEnd) (homes : List Notes) (calls : List (List Op)) (ends : Ends d b domain desks servers homes ⊤) (whole : EndsWhole d b desks calls) where
+module _ (d : Domain) (b : Back) (domain : WorkState) (desks : List Desk) (servers : List ServerEnd) (homes : List Notes) (calls : List (List Op)) (ends : Ends d b domain desks servers homes ⊤) (whole : EndsWhole d b desks calls) where
   abbrev noted_by : ℕ → List Stamped
   noted_by = noted_of domain desks
 
@@ -273,6 +273,6 @@ module _ (d : Domain) (b : Back) (domain : Working) (desks : List Desk) (servers
           made = merged_made d b domain desks homes events all ends.homes_are merged;
         }
 
-pub ends_history : (d : Domain) (b : Back) (domain : Working) (desks : List Desk) (servers : List ServerEnd) (homes : List Notes) (calls : List (List Op)) (clients : List Client) (events : List Event) → Ends d b domain desks servers homes ⊤ → EndsWhole d b desks calls
+pub ends_history : (d : Domain) (b : Back) (domain : WorkState) (desks : List Desk) (servers : List ServerEnd) (homes : List Notes) (calls : List (List Op)) (clients : List Client) (events : List Event) → Ends d b domain desks servers homes ⊤ → EndsWhole d b desks calls
     → calls ≡ map (λ (c : Client). c.ops) clients → IsMerged homes events → IsHistory d.setup clients events
 ends_history d b domain desks servers homes calls clients events ends whole are merged = is_history d b domain desks servers homes calls ends whole events merged clients are

@@ -26,7 +26,7 @@ use Rattle.xa_client_worker.proofs.xa_worker.Over.{met_by_workers}
 use Rattle.xa_client_worker.specs.xa_queue.Reading.{MetIfNew}
 use Rattle.xa_client_worker.specs.xa_held.Board.{made_in}
 use Rattle.xa_client_worker.specs.xa_held.Kept.{Kept}
-use Rattle.xa_client_worker.specs.xa_worker.Work.{Standing as Working}
+use Rattle.xa_client_worker.specs.xa_worker.Work.{WorkState}
 use Rattle.xa_client_worker.specs.xa_caller.declared.cargo.Filling.{Filling}
 use Rattle.xa_client_worker.specs.xa_desk.declared.domain.Domain.{Domain}
 use Rattle.xa_client_worker.specs.xa_desk.declared.desk.Desk.{Desk}
@@ -44,7 +44,7 @@ module _ (setup : Setup) (queue : ℕ) where
   next_where_new [] met new = tt
   next_where_new (e ∷ past) met new = ((met.0 new).1, next_where_new past met.1 new.1)
 
-module _ (d : Domain) (b : Back) (domain : Working) (desks : List Desk) (all : AllLeft d b domain desks) where
+module _ (d : Domain) (b : Back) (domain : WorkState) (desks : List Desk) (all : AllLeft d b domain desks) where
   each_met : (worker : ℕ) → worker < workers_of d.setup d.clients → All (MetAmong d.setup (noted_in (kept_of b BoardHome))) (filter (stands_at d.setup d.clients BoardHome) (noted_of domain desks worker))
   each_met worker low =
       let own : List Stamped = noted_of domain desks worker in

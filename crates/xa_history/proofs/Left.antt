@@ -29,7 +29,7 @@ use Rattle.xa_client_worker.specs.xa_held.Kept.{Kept, notes_of}
 use Rattle.xa_client_worker.specs.xa_held.Notes.{maker_of as note_maker, made_page}
 use Rattle.xa_client_worker.proofs.xa_held.Front.{knows_events}
 use Rattle.xa_client_worker.proofs.xa_held.Fronts.{knows_changes}
-use Rattle.xa_client_worker.specs.xa_worker.Work.{Standing as Working, IsWorkOf}
+use Rattle.xa_client_worker.specs.xa_worker.Work.{WorkState, IsWorkOf}
 use Rattle.xa_client_worker.specs.xa_caller.declared.cargo.Filling.{Filling}
 use Rattle.xa_client_worker.specs.xa_desk.declared.domain.Domain.{Domain}
 use Rattle.xa_client_worker.specs.xa_desk.declared.desk.Desk.{Desk}
@@ -110,12 +110,12 @@ module _ (d : Domain) (b : Back) (worker : ℕ) (own : List Stamped) where
   by_page page entries home maker knows is = ap (λ (n : ℕ). noted_in (entries_by maker_of n entries)) (sym maker) ∙ ap noted_in knows.0 ∙ is
 
 -- the domain itself
-domain_home : (d : Domain) (b : Back) (domain : Working) → IsDomainOf d b domain → list_in (numbered 0 b.own) ≡ filter (stands_at d.setup d.clients (CallerHome 0)) domain.own
+domain_home : (d : Domain) (b : Back) (domain : WorkState) → IsDomainOf d b domain → list_in (numbered 0 b.own) ≡ filter (stands_at d.setup d.clients (CallerHome 0)) domain.own
 domain_home d b domain is =
     let at : Stamped → Bool = stands_at d.setup d.clients (CallerHome 0) in
     sym (filter-none at domain.own (All-weaker (λ (x : Stamped). MayNote d.clients 0 x.event) (λ (x : Stamped). at x ≡ false) (λ x may. off_callers d.setup d.clients 0 x.event may) domain.own is.work.may))
 
-pub domain_left : (d : Domain) (b : Back) (domain : Working) → IsDomainOf d b domain → Left d b 0 domain.own
+pub domain_left : (d : Domain) (b : Back) (domain : WorkState) → IsDomainOf d b domain → Left d b 0 domain.own
 domain_left d b domain is = record {
   work = is.work;
   made = is.made;
@@ -193,7 +193,7 @@ module _ (d : Domain) (b : Back) (count : length b.queues ≡ length d.queues.it
 
 -- ---- of each worker
 
-module _ (d : Domain) (b : Back) (domain : Working) (desks : List Desk) (all : AllLeft d b domain desks) where
+module _ (d : Domain) (b : Back) (domain : WorkState) (desks : List Desk) (all : AllLeft d b domain desks) where
   pub queues_count : length b.queues ≡ length d.queues.items
   queues_count = all.queues ∙ sym all.is.queues
 

@@ -29,9 +29,9 @@ use Rattle.xa_client_worker.specs.xa_frame.declared.frame.Frame.{Frame}
 use Rattle.xa_client_worker.specs.xa_pipe.declared.turn.Turn.TheVariants.{AwaitsInvoke}
 use Rattle.xa_client_worker.specs.xa_pipe.Following.{is_of, IsSent, IsBorneOut, StandsIn}
 use Rattle.xa_client_worker.specs.xa_pipe.Life.{Reasons, StopsClosed, stops_life}
-use Rattle.xa_client_worker.specs.xa_pipe.Standing.{Standing as Life, Ending}
+use Rattle.xa_client_worker.specs.xa_pipe.Standing.{LifeState, Ending}
 use Rattle.xa_client_worker.proofs.xa_pipe.Followed.{is_life}
-use Rattle.xa_client_worker.specs.xa_worker.Work.{Standing as Working, theirs}
+use Rattle.xa_client_worker.specs.xa_worker.Work.{WorkState, theirs}
 use Rattle.xa_client_worker.specs.xa_desk.declared.domain.Domain.{Domain}
 use Rattle.xa_client_worker.specs.xa_desk.declared.desk.Desk.{Desk}
 use Rattle.xa_client_worker.specs.xa_desk.Whole.{entries_of}
@@ -52,7 +52,7 @@ use Rattle.xa_history.proofs.Shown.{Shown, shown}
 use Rattle.xa_history.proofs.Asked.{takes_sent}
 use Rattle.xa_history.proofs.SoFar.{of_starts, of_lives, of_asked}
 
-module _ (d : Domain) (b : Back) (domain : Working) (desks : List Desk) (servers : List ServerEnd) (homes : List Notes) (Whole : Type 0) (ends : Ends d b domain desks servers homes Whole) (events : List Event) (merged : IsMerged homes events) where
+module _ (d : Domain) (b : Back) (domain : WorkState) (desks : List Desk) (servers : List ServerEnd) (homes : List Notes) (Whole : Type 0) (ends : Ends d b domain desks servers homes Whole) (events : List Event) (merged : IsMerged homes events) where
   abbrev past : List Event
   past = reverse events
 
@@ -108,11 +108,11 @@ module _ (d : Domain) (b : Back) (domain : Working) (desks : List Desk) (servers
   module _ (whole : Whole) where
     all_lives : (server : ℕ) (end : ServerEnd) → ShownHere server end → generations_of end.lives ≡ lives_in server past
     all_lives server end its =
-        sym (append-nil (generations_of end.lives)) ∙ (ap (λ (l : List Life). generations_of end.lives ++ map (λ (life : Life). life.generation) l) (sym (its.shows.none_cut whole)) ∙ of_lives d b domain desks servers homes Whole ends events merged server end its)
+        sym (append-nil (generations_of end.lives)) ∙ (ap (λ (l : List LifeState). generations_of end.lives ++ map (λ (life : LifeState). life.generation) l) (sym (its.shows.none_cut whole)) ∙ of_lives d b domain desks servers homes Whole ends events merged server end its)
 
     all_asked : (server : ℕ) (end : ServerEnd) → ShownHere server end → All (IsAsked server past) (its_lives end.lives)
     all_asked server end its =
-        subst (All (IsAsked server past)) (append-nil (its_lives end.lives)) (subst (λ (l : List Life). All (IsAsked server past) (its_lives end.lives ++ l)) (its.shows.none_cut whole) (of_asked d b domain desks servers homes Whole ends events merged server end its))
+        subst (All (IsAsked server past)) (append-nil (its_lives end.lives)) (subst (λ (l : List LifeState). All (IsAsked server past) (its_lives end.lives ++ l)) (its.shows.none_cut whole) (of_asked d b domain desks servers homes Whole ends events merged server end its))
 
     starter_of : (server : ℕ) (end : ServerEnd) → ShownHere server end → IsStarterOf d.setup server end.shown past
     starter_of server end its = record {

@@ -15,7 +15,7 @@ use Rattle.xa_client_worker.proofs.xa_worker.Placed.{merge_of}
 use Rattle.xa_client_worker.proofs.xa_worker.Workers.{each_merged}
 use Rattle.xa_client_worker.specs.xa_held.Board.{made_in}
 use Rattle.xa_client_worker.specs.xa_held.Kept.{Kept}
-use Rattle.xa_client_worker.specs.xa_worker.Work.{Standing as Working}
+use Rattle.xa_client_worker.specs.xa_worker.Work.{WorkState}
 use Rattle.xa_client_worker.specs.xa_caller.declared.cargo.Filling.{Filling}
 use Rattle.xa_client_worker.specs.xa_desk.declared.domain.Domain.{Domain}
 use Rattle.xa_client_worker.specs.xa_desk.declared.desk.Desk.{Desk}
@@ -28,12 +28,12 @@ use Rattle.xa_history.proofs.Crew.{desks_are_crew}
 use Rattle.xa_history.proofs.Homes.{homes_met}
 use Rattle.xa_history.proofs.Recorded.{held, each_held, names, names_are}
 
-pub merged_run : (d : Domain) (b : Back) (domain : Working) (desks : List Desk) (homes : List Notes) (events : List Event) → AllLeft d b domain desks → HoldAll d b homes → IsMerged homes events
+pub merged_run : (d : Domain) (b : Back) (domain : WorkState) (desks : List Desk) (homes : List Notes) (events : List Event) → AllLeft d b domain desks → HoldAll d b homes → IsMerged homes events
     → Run (opening d.setup d.clients) events (record { setup = d.setup; clients = d.clients; past = reverse events })
 merged_run d b domain desks homes events all hold merged =
     crew_is_run d.setup d.clients (made_in b.board.notes) [] (map (λ (kept : Kept Filling). kept.queue.entries) b.queues) b.own (workers_of d.setup d.clients) (noted_of domain desks) homes events (desks_are_crew d b domain desks all) (homes_met d b domain desks all) hold merged
 
-pub merged_made : (d : Domain) (b : Back) (domain : Working) (desks : List Desk) (homes : List Notes) (events : List Event) → AllLeft d b domain desks → HoldAll d b homes → IsMerged homes events → All IsMade (reverse events)
+pub merged_made : (d : Domain) (b : Back) (domain : WorkState) (desks : List Desk) (homes : List Notes) (events : List Event) → AllLeft d b domain desks → HoldAll d b homes → IsMerged homes events → All IsMade (reverse events)
 merged_made d b domain desks homes events all hold merged =
     let are = names_are d b domain desks all homes hold in
     let m = merge_of d.setup d.clients (names d b domain desks all) (held d b domain desks all) homes (each_held d b domain desks all) events are.once (λ home none. ap noted_in (are.rest home none)) are.are merged in

@@ -12,7 +12,7 @@ use Rattle.xa_client_worker.specs.xa_stamp.Merge.{IsMerged}
 use Rattle.xa_client_worker.specs.xa_worker.Ending.{list_in, workers_of}
 use Rattle.xa_client_worker.specs.xa_worker.Seen.{past_in}
 use Rattle.xa_client_worker.proofs.xa_worker.Joined.{own_events}
-use Rattle.xa_client_worker.specs.xa_worker.Work.{Standing as Working, theirs}
+use Rattle.xa_client_worker.specs.xa_worker.Work.{WorkState, theirs}
 use Rattle.xa_client_worker.specs.xa_desk.declared.domain.Domain.{Domain}
 use Rattle.xa_client_worker.specs.xa_desk.declared.desk.Desk.{Desk}
 use Rattle.xa_history.specs.Joined.{Back, AllLeft, kept_of, noted_of}
@@ -25,7 +25,7 @@ numbered_within : {X : Type 0} (n : ℕ) (xs : List X) (x : X) → numbered n xs
 numbered_within zero xs x there = absurd (cc there)
 numbered_within (suc k) xs x there = let low = slice_get_within xs k x there in omega (arith, low)
 
-module _ (d : Domain) (b : Back) (domain : Working) (desks : List Desk) (left : AllLeft d b domain desks) where
+module _ (d : Domain) (b : Back) (domain : WorkState) (desks : List Desk) (left : AllLeft d b domain desks) where
   -- a caller that has a desk is one of the workers, and noted what its desk has
   pub is_worker : (worker : ℕ) (desk : Desk) → numbered worker desks ≡ Some desk → worker < workers_of d.setup d.clients
   is_worker worker desk there = let low = numbered_within worker desks desk there in let count = left.count in omega (arith, low, count)

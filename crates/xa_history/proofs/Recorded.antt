@@ -27,7 +27,7 @@ use Rattle.xa_client_worker.proofs.xa_worker.Workers.{Mounts, mounts, mounts-abo
 use Rattle.xa_client_worker.specs.xa_held.Board.{made_in}
 use Rattle.xa_client_worker.specs.xa_held.Kept.{Kept}
 use Rattle.xa_client_worker.specs.xa_caller.declared.cargo.Filling.{Filling}
-use Rattle.xa_client_worker.specs.xa_worker.Work.{Standing as Working}
+use Rattle.xa_client_worker.specs.xa_worker.Work.{WorkState}
 use Rattle.xa_client_worker.specs.xa_desk.declared.domain.Domain.{Domain}
 use Rattle.xa_client_worker.specs.xa_desk.declared.desk.Desk.{Desk}
 use Rattle.xa_client_worker.specs.xa_desk.Whole.{IsKnown}
@@ -136,7 +136,7 @@ module _ (setup : Setup) (clients worker stamp : ℕ) where
 
 -- ---- the homes of a domain
 
-module _ (d : Domain) (b : Back) (domain : Working) (desks : List Desk) (all : AllLeft d b domain desks) where
+module _ (d : Domain) (b : Back) (domain : WorkState) (desks : List Desk) (all : AllLeft d b domain desks) where
   abbrev pub held : Home → List Stamped
   held home = noted_in (kept_of b home)
 
@@ -219,7 +219,7 @@ module _ (d : Domain) (b : Back) (domain : Working) (desks : List Desk) (all : A
   pub names_are : (homes : List Notes) → HoldAll d b homes → AreHomes names (kept_of b) homes
   names_are homes hold = are_homes d.setup d.clients (made_in b.board.notes) [] (map (λ (kept : Kept Filling). kept.queue.entries) b.queues) b.own homes hold
 
-pub recorded : (d : Domain) (b : Back) (domain : Working) (desks : List Desk) (homes : List Notes) → AllLeft d b domain desks → HoldAll d b homes → AreTold d.setup d.clients homes → IsRecorded d.setup d.clients homes
+pub recorded : (d : Domain) (b : Back) (domain : WorkState) (desks : List Desk) (homes : List Notes) → AllLeft d b domain desks → HoldAll d b homes → AreTold d.setup d.clients homes → IsRecorded d.setup d.clients homes
 recorded d b domain desks homes all hold told =
     let are = names_are d b domain desks all homes hold in
     record {
@@ -231,7 +231,7 @@ recorded d b domain desks homes all hold told =
       told = told;
     }
 
-pub dense : (d : Domain) (b : Back) (domain : Working) (desks : List Desk) (homes : List Notes) → AllLeft d b domain desks → HoldAll d b homes → IsDense no_stamp homes
+pub dense : (d : Domain) (b : Back) (domain : WorkState) (desks : List Desk) (homes : List Notes) → AllLeft d b domain desks → HoldAll d b homes → IsDense no_stamp homes
 dense d b domain desks homes all hold =
     crew_is_dense d.setup d.clients (workers_of d.setup d.clients) (kept_of b) (noted_of domain desks) (desks_are_crew d b domain desks all) (all_homes d.setup d.clients) homes (names_are d b domain desks all homes hold) (stamps_next d b domain desks all)
 
@@ -255,7 +255,7 @@ among_stamps held home x here (h ∷ homes) (n ∷ names) are some =
     ]
 
 -- a known stamp that is at the end of stamps is an event's
-pub known_noted : (d : Domain) (b : Back) (domain : Working) (desks : List Desk) (homes : List Notes) → AllLeft d b domain desks → HoldAll d b homes → (stamp : Stamp) → IsKnown (whole_of d b) stamp → stamp.0 ≡ 2 ^ 63 → Contains (stamps_of homes) (2 ^ 63)
+pub known_noted : (d : Domain) (b : Back) (domain : WorkState) (desks : List Desk) (homes : List Notes) → AllLeft d b domain desks → HoldAll d b homes → (stamp : Stamp) → IsKnown (whole_of d b) stamp → stamp.0 ≡ 2 ^ 63 → Contains (stamps_of homes) (2 ^ 63)
 known_noted d b domain desks homes all hold stamp is worn =
     let are = names_are d b domain desks all homes hold in
     elim (known_stamp d b domain desks all stamp is) [
@@ -265,7 +265,7 @@ known_noted d b domain desks homes all hold stamp is worn =
           (among_stamps (held d b domain desks all) its.0 its.1 its.2 homes (names d b domain desks all) are.are (λ none. let empty : Contains [] its.1 = subst (λ (l : List Made). Contains (noted_in l) its.1) (are.rest its.0 none) its.2 in absurd (omega (arith, empty.1))))
     ]
 
-pub worn_noted : (d : Domain) (b : Back) (domain : Working) (desks : List Desk) (homes : List Notes) → AllLeft d b domain desks → HoldAll d b homes → (desk : Desk) → Contains desks desk → desk.caller.work.stamp.0 ≡ 2 ^ 63 → Contains (stamps_of homes) (2 ^ 63)
+pub worn_noted : (d : Domain) (b : Back) (domain : WorkState) (desks : List Desk) (homes : List Notes) → AllLeft d b domain desks → HoldAll d b homes → (desk : Desk) → Contains desks desk → desk.caller.work.stamp.0 ≡ 2 ^ 63 → Contains (stamps_of homes) (2 ^ 63)
 worn_noted d b domain desks homes all hold desk there worn =
     let is = (All-contains (HasLeft d b) desks desk all.left there).is.known_stamp (whole_of d b) (All-contains (GoesOn d (whole_of d b)) desks desk (desks_go_on d b domain desks all) there) in
     known_noted d b domain desks homes all hold desk.caller.work.stamp is worn

@@ -35,7 +35,7 @@ use Rattle.xa_client_worker.proofs.xa_worker.Workers.{AtEach-from, All-at, its_o
 use Rattle.xa_client_worker.specs.xa_held.declared.cargo.Invocation.{Invocation}
 use Rattle.xa_client_worker.specs.xa_held.Kept.{Brings}
 use Rattle.xa_client_worker.specs.xa_pipe.Following.{IsBorneOut}
-use Rattle.xa_client_worker.specs.xa_worker.Work.{Standing as Working}
+use Rattle.xa_client_worker.specs.xa_worker.Work.{WorkState}
 use Rattle.xa_client_worker.specs.xa_desk.declared.domain.Domain.{Domain}
 use Rattle.xa_client_worker.specs.xa_desk.declared.desk.Desk.{Desk}
 use Rattle.xa_client_worker.specs.xa_desk.Made.{IsMade}
@@ -73,7 +73,7 @@ closed_more : (queue : ℕ) (e : Event) (past : List Event) → is_closed queue 
 unfolding is_closed
 closed_more queue e past closed = or_right (is_close_of queue e) (is_closed queue past) closed
 
-module _ (d : Domain) (b : Back) (domain : Working) (desks : List Desk) (left : AllLeft d b domain desks) (homes : List Notes) (events : List Event) (hold : HoldAll d b homes) (is : IsMerged homes events) where
+module _ (d : Domain) (b : Back) (domain : WorkState) (desks : List Desk) (left : AllLeft d b domain desks) (homes : List Notes) (events : List Event) (hold : HoldAll d b homes) (is : IsMerged homes events) where
   abbrev past : List Event
   past = reverse events
 

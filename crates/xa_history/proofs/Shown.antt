@@ -8,7 +8,7 @@ use Rattle.xa_client_worker.specs.xa_events.Local.{worker_events}
 use Rattle.xa_client_worker.specs.xa_events.State.{caller_of}
 use Rattle.xa_client_worker.specs.xa_stamp.Home.{Notes}
 use Rattle.xa_client_worker.specs.xa_stamp.Merge.{IsMerged}
-use Rattle.xa_client_worker.specs.xa_worker.Work.{Standing as Working, theirs}
+use Rattle.xa_client_worker.specs.xa_worker.Work.{WorkState, theirs}
 use Rattle.xa_client_worker.specs.xa_desk.declared.domain.Domain.{Domain}
 use Rattle.xa_client_worker.specs.xa_desk.declared.desk.Desk.{Desk}
 use Rattle.xa_server_worker.specs.Lives.{ServerShows}
@@ -23,7 +23,7 @@ name_in : (o : Option ServerSetup) (name : List ℕ) → option_map (λ (server 
 name_in None name is = absurd (cc is)
 name_in (Some server) name is = cc is
 
-module _ (d : Domain) (b : Back) (domain : Working) (desks : List Desk) (servers : List ServerEnd) (homes : List Notes) (Whole : Type 0) (ends : Ends d b domain desks servers homes Whole) (events : List Event) (merged : IsMerged homes events) where
+module _ (d : Domain) (b : Back) (domain : WorkState) (desks : List Desk) (servers : List ServerEnd) (homes : List Notes) (Whole : Type 0) (ends : Ends d b domain desks servers homes Whole) (events : List Event) (merged : IsMerged homes events) where
   -- what the worker of a server shows, and that the merge has of it what it noted
   pub record Shown (server : ℕ) (end : ServerEnd) : Type 0 where
     pub desk : Desk

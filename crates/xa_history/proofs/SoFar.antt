@@ -14,9 +14,9 @@ use Rattle.xa_client_worker.specs.xa_events.Words.{EachNumbered, count}
 use Rattle.xa_client_worker.specs.xa_stamp.Home.{Notes}
 use Rattle.xa_client_worker.specs.xa_stamp.Merge.{IsMerged}
 use Rattle.xa_client_worker.specs.xa_worker.Ending.{list_in}
-use Rattle.xa_client_worker.specs.xa_worker.Work.{Standing as Working, theirs}
+use Rattle.xa_client_worker.specs.xa_worker.Work.{WorkState, theirs}
 use Rattle.xa_client_worker.specs.xa_pipe.Life.{stops_life}
-use Rattle.xa_client_worker.specs.xa_pipe.Standing.{Standing as Life, Ending}
+use Rattle.xa_client_worker.specs.xa_pipe.Standing.{LifeState, Ending}
 use Rattle.xa_client_worker.specs.xa_desk.declared.domain.Domain.{Domain}
 use Rattle.xa_client_worker.specs.xa_desk.declared.desk.Desk.{Desk}
 use Rattle.xa_server_worker.specs.Lives.{lives_in, failed_starts, HasStartedSoFar, HandsOn, IsCut}
@@ -29,7 +29,7 @@ use Rattle.xa_history.proofs.Readings.{lives_own, starts_own, failed_own, stoppe
 use Rattle.xa_history.proofs.Shown.{Shown, shown}
 use Rattle.xa_history.proofs.Asked.{life_asked}
 
-module _ (d : Domain) (b : Back) (domain : Working) (desks : List Desk) (servers : List ServerEnd) (homes : List Notes) (Whole : Type 0) (ends : Ends d b domain desks servers homes Whole) (events : List Event) (merged : IsMerged homes events) where
+module _ (d : Domain) (b : Back) (domain : WorkState) (desks : List Desk) (servers : List ServerEnd) (homes : List Notes) (Whole : Type 0) (ends : Ends d b domain desks servers homes Whole) (events : List Event) (merged : IsMerged homes events) where
   abbrev pub past : List Event
   past = reverse events
 
@@ -47,14 +47,14 @@ module _ (d : Domain) (b : Back) (domain : Working) (desks : List Desk) (servers
         (subst (λ (l : List ℕ). P (name_of d.setup server) (length l) (failed_starts server (theirs its.desk.caller.work))) (ap (starts server) (sym its.own) ∙ starts_own d.clients server past)
         (subst (λ (name : List ℕ). P name (length (starts server (theirs its.desk.caller.work))) (failed_starts server (theirs its.desk.caller.work))) its.named holds))
 
-    pub of_lives : generations_of end.lives ++ map (λ (life : Life). life.generation) end.cut ≡ lives_in server past
+    pub of_lives : generations_of end.lives ++ map (λ (life : LifeState). life.generation) end.cut ≡ lives_in server past
     of_lives = its.shows.lives_are ∙ (ap (lives_in server) (sym its.own) ∙ lives_own d.clients server past)
 
     -- so it is with INVOKEs
     pub of_asked : All (IsAsked server past) (lives_of end.lives ++ end.cut)
     of_asked = All-weaker (HandsOn d (queue_of d.setup server) server its.desk) (IsAsked server past) (life_asked d b domain desks servers homes Whole ends events merged server end its) (lives_of end.lives ++ end.cut) its.shows.taken
 
-    cut_alive : (life : Life) → IsCut end.shown.name server (theirs its.desk.caller.work) life → IsCut (name_of d.setup server) server past life
+    cut_alive : (life : LifeState) → IsCut end.shown.name server (theirs its.desk.caller.work) life → IsCut (name_of d.setup server) server past life
     cut_alive life is = record {
       cut_off = is.cut_off;
       its = is.its;
@@ -82,5 +82,5 @@ module _ (d : Domain) (b : Back) (domain : Working) (desks : List Desk) (servers
         let count = ends.count in
         let one = numbered_there server servers some (omega (arith, low, count)) in
         subst (λ (l : List Ending). AreLivesOf d.setup past server l (list_in (numbered server (map (λ (x : ServerEnd). x.cut) servers)))) (sym (list_of (λ (x : ServerEnd). x.lives) server one.0 one.1))
-        (subst (λ (l : List Life). AreLivesOf d.setup past server one.0.lives l) (sym (list_of (λ (x : ServerEnd). x.cut) server one.0 one.1)) (its_lives server one.0 (shown_here server one.0 one.1)));
+        (subst (λ (l : List LifeState). AreLivesOf d.setup past server one.0.lives l) (sym (list_of (λ (x : ServerEnd). x.cut) server one.0 one.1)) (its_lives server one.0 (shown_here server one.0 one.1)));
   }

@@ -15,7 +15,7 @@ use Rattle.xa_client_worker.specs.xa_held.declared.kept_board.BoardNote.{BoardNo
 use Rattle.xa_client_worker.specs.xa_held.declared.kept_board.BoardNote.TheVariants.{Opened, By, Looked}
 use Rattle.xa_client_worker.specs.xa_held.Board.{Climbs, maker_of as change_maker}
 use Rattle.xa_client_worker.specs.xa_held.Joins.{changes_at}
-use Rattle.xa_client_worker.specs.xa_worker.Work.{Standing as Working}
+use Rattle.xa_client_worker.specs.xa_worker.Work.{WorkState}
 use Rattle.xa_client_worker.specs.xa_server.Told.{HasStamp}
 use Rattle.xa_client_worker.specs.xa_desk.declared.domain.Domain.{Domain}
 use Rattle.xa_client_worker.specs.xa_desk.declared.desk.Desk.{Desk}
@@ -64,7 +64,7 @@ module _ (entries : Home → List Stamped) where
       ] in
       All-cons IsOfEventIn (Looked look) notes here (looks_known look.stamp.0 notes here climbs.1 (All-tail IsGround (Looked look) notes grounds) there)
 
-module _ (d : Domain) (b : Back) (domain : Working) (desks : List Desk) (all : AllLeft d b domain desks) where
+module _ (d : Domain) (b : Back) (domain : WorkState) (desks : List Desk) (all : AllLeft d b domain desks) where
   abbrev held : Home → List Stamped
   held home = noted_in (kept_of b home)
 

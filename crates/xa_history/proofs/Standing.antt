@@ -23,7 +23,7 @@ use Rattle.xa_client_worker.specs.xa_held.Board.{made_in, maker_of as change_mak
 use Rattle.xa_client_worker.specs.xa_held.Kept.{Kept, setting_of}
 use Rattle.xa_client_worker.specs.xa_held.Notes.{maker_of as note_maker}
 use Rattle.xa_client_worker.proofs.xa_held.Front.{note}
-use Rattle.xa_client_worker.specs.xa_worker.Work.{Standing as Working}
+use Rattle.xa_client_worker.specs.xa_worker.Work.{WorkState}
 use Rattle.xa_client_worker.specs.xa_server.Fillings.{StandAt}
 use Rattle.xa_client_worker.specs.xa_caller.declared.cargo.Filling.{Filling}
 use Rattle.xa_client_worker.specs.xa_desk.declared.domain.Domain.{Domain}
@@ -73,7 +73,7 @@ change_makers workers (By made ∷ notes) all =
     All-cons (λ entry. maker_of entry < workers) made (made_in notes) (All-head (λ note. change_maker note < workers) (By made) notes all) (change_makers workers notes (All-tail (λ note. change_maker note < workers) (By made) notes all))
 change_makers workers (Looked look ∷ notes) all = change_makers workers notes (All-tail (λ note. change_maker note < workers) (Looked look) notes all)
 
-module _ (d : Domain) (b : Back) (domain : Working) (desks : List Desk) (all : AllLeft d b domain desks) where
+module _ (d : Domain) (b : Back) (domain : WorkState) (desks : List Desk) (all : AllLeft d b domain desks) where
   abbrev workers : ℕ
   workers = workers_of d.setup d.clients
 

@@ -8,9 +8,9 @@ use Rattle.xa_client_worker.specs.xa_stamp.Home.{Notes}
 use Rattle.xa_client_worker.specs.xa_worker.Ending.{AreAll}
 use Rattle.xa_client_worker.specs.xa_held.Board.{made_in}
 use Rattle.xa_client_worker.specs.xa_held.Kept.{Kept}
-use Rattle.xa_client_worker.specs.xa_worker.Work.{Standing as Working}
+use Rattle.xa_client_worker.specs.xa_worker.Work.{WorkState}
 use Rattle.xa_client_worker.specs.xa_caller.declared.cargo.Filling.{Filling}
-use Rattle.xa_client_worker.specs.xa_pipe.Standing.{Standing as Life, Ending}
+use Rattle.xa_client_worker.specs.xa_pipe.Standing.{LifeState, Ending}
 use Rattle.xa_client_worker.specs.xa_server.Served.{StarterShows}
 use Rattle.xa_client_worker.specs.xa_desk.declared.domain.Domain.{Domain}
 use Rattle.xa_client_worker.specs.xa_desk.declared.desk.Desk.{Desk}
@@ -22,7 +22,7 @@ use Rattle.xa_history.specs.Joined.{Back, AllLeft}
 -- what a server's worker hands back: its lives that ended, that which went on at a halt, and what its starter shows
 pub record ServerEnd : Type 0 where
   pub lives : List Ending
-  pub cut : List Life
+  pub cut : List LifeState
   pub shown : StarterShows
 
 -- a client made all of these calls, and left
@@ -35,7 +35,7 @@ abbrev pub EachServer : Domain → List Desk → List ServerEnd → Type 0 → T
 EachServer d desks servers Whole = EachNumbered (λ k (x : ServerEnd). IsSomeAnd (numbered (d.clients + k) desks) (λ desk. ServerShows d x.shown.name (queue_of d.setup k) k desk x.lives x.cut x.shown Whole)) 1 servers
 
 -- all of it: the workers left, these are all homes, in their order, and each server shows its lives
-pub record Ends (d : Domain) (b : Back) (domain : Working) (desks : List Desk) (servers : List ServerEnd) (homes : List Notes) (Whole : Type 0) : Type 0 where
+pub record Ends (d : Domain) (b : Back) (domain : WorkState) (desks : List Desk) (servers : List ServerEnd) (homes : List Notes) (Whole : Type 0) : Type 0 where
   pub left : AllLeft d b domain desks
   pub homes_are : AreAll d.setup d.clients (made_in b.board.notes) [] (map (λ (kept : Kept Filling). kept.queue.entries) b.queues) b.own homes
   pub count : length servers ≡ length d.setup.servers

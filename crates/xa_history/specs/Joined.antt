@@ -25,7 +25,7 @@ use Rattle.xa_client_worker.specs.xa_held.Board.{Held, IsSoundBoard, made_in, ma
 use Rattle.xa_client_worker.specs.xa_held.Joins.{changes_at, changes_page}
 use Rattle.xa_client_worker.specs.xa_held.Kept.{Kept, notes_of, setting_of}
 use Rattle.xa_client_worker.specs.xa_held.Notes.{maker_of, made_page}
-use Rattle.xa_client_worker.specs.xa_worker.Work.{Standing as Working, IsSound, IsWorkOf}
+use Rattle.xa_client_worker.specs.xa_worker.Work.{WorkState, IsSound, IsWorkOf}
 use Rattle.xa_client_worker.specs.xa_caller.declared.cargo.Filling.{Filling}
 use Rattle.xa_client_worker.specs.xa_desk.declared.domain.Domain.{Domain}
 use Rattle.xa_client_worker.specs.xa_desk.declared.desk.Desk.{Desk}
@@ -66,7 +66,7 @@ abbrev pub kept_of : Back → Home → List Made
 kept_of b = kept_at (made_in b.board.notes) [] (map (λ (kept : Kept Filling). kept.queue.entries) b.queues) b.own
 
 -- what each worker noted: the domain itself, and then the callers by their desks
-abbrev pub noted_of : Working → List Desk → ℕ → List Stamped
+abbrev pub noted_of : WorkState → List Desk → ℕ → List Stamped
 noted_of domain desks zero = domain.own
 noted_of domain desks (suc n) = list_in (option_map (λ (desk : Desk). desk.caller.work.own) (numbered (suc n) desks))
 
@@ -79,7 +79,7 @@ pub record HasLeft (d : Domain) (b : Back) (desk : Desk) : Type 0 where
   pub home : list_in (numbered desk.caller.work.id.0 b.own) ≡ filter (stands_at d.setup d.clients (CallerHome desk.caller.work.id.0)) desk.caller.work.own
 
 -- the domain itself, which is caller 0: what it noted, and what it knows of the homes by its own passes
-pub record IsDomainOf (d : Domain) (b : Back) (domain : Working) : Type 0 where
+pub record IsDomainOf (d : Domain) (b : Back) (domain : WorkState) : Type 0 where
   pub id : domain.id.0 ≡ 0
   pub work : IsWorkOf d.setup d.clients 0 domain.own
   pub made : All (λ (x : Stamped). IsMade x.event) domain.own
@@ -102,7 +102,7 @@ pub record IsQueueOf (d : Domain) (queue : ℕ) (kept : Kept Filling) : Type 0 w
   pub makers : All (λ note. maker_of note < workers_of d.setup d.clients) (notes_of kept)
 
 -- all workers have left: the locks gave the homes back, and the cells were closed with all seats, of which that of the domain told no answer
-pub record AllLeft (d : Domain) (b : Back) (domain : Working) (desks : List Desk) : Type 0 where
+pub record AllLeft (d : Domain) (b : Back) (domain : WorkState) (desks : List Desk) : Type 0 where
   pub is : IsDomain d
   pub count : length desks ≡ d.clients + length d.setup.servers
   pub ids : (worker : ℕ) (desk : Desk) → numbered worker desks ≡ Some desk → desk.caller.work.id.0 ≡ worker

@@ -27,7 +27,7 @@ use Rattle.xa_client_worker.specs.xa_caller.declared.cargo.Filling.{Filling}
 use Rattle.xa_script.specs.declared.script.Client.{Client}
 use Rattle.xa_client_worker.specs.xa_frame.declared.frame.Frame.{Frame}
 use Rattle.xa_client_worker.specs.xa_pipe.Frames.{written_at}
-use Rattle.xa_client_worker.specs.xa_pipe.Standing.{Standing as Life, Ending, IsLife}
+use Rattle.xa_client_worker.specs.xa_pipe.Standing.{LifeState, Ending, IsLife}
 use Rattle.xa_client_worker.specs.xa_server.Served.{StarterShows}
 use Rattle.xa_client_worker.specs.xa_desk.declared.domain.Domain.{Domain}
 use Rattle.xa_client_worker.specs.xa_desk.Made.{IsMade}
@@ -113,7 +113,7 @@ IsLifeOf setup clients past server over = (over.life.server.0 ≡ server) × (ov
 abbrev pub generations_of : List Ending → List Generation
 generations_of lives = map (λ (over : Ending). over.life.generation) lives
 
-abbrev pub lives_of : List Ending → List Life
+abbrev pub lives_of : List Ending → List LifeState
 lives_of lives = map (λ (over : Ending). over.life) lives
 
 -- the INVOKEs of a life, the oldest first: one for each request that its server took, with what the request was sent for last
@@ -125,7 +125,7 @@ abbrev pub invokes_in : ℕ → ℕ → List Event → List Frame
 invokes_in server g past = from_each (invoke_at server g) past
 
 -- just these were due to the life's program
-abbrev pub IsAsked : ℕ → List Event → Life → Type 0
+abbrev pub IsAsked : ℕ → List Event → LifeState → Type 0
 IsAsked server past life = life.asked ≡ invokes_in server life.generation.0 past
 
 -- there is a list for each server, and its lives are the server's starts that succeeded; in each of them the INVOKEs of its requests were due
@@ -156,13 +156,13 @@ pub record IsServedWhole {S : Type 0} (shows : S → StarterShows) (setup : Setu
 
 -- a server's starts that succeeded are its lives that ended, and then that which went on at the halt and was cut; in each of them the INVOKEs of its
 -- requests were due, and the link of the one that was cut took the octets of those
-pub record AreLivesOf (setup : Setup) (past : List Event) (server : ℕ) (lives : List Ending) (cut : List Life) : Type 0 where
-  pub are : generations_of lives ++ map (λ (life : Life). life.generation) cut ≡ lives_in server past
+pub record AreLivesOf (setup : Setup) (past : List Event) (server : ℕ) (lives : List Ending) (cut : List LifeState) : Type 0 where
+  pub are : generations_of lives ++ map (λ (life : LifeState). life.generation) cut ≡ lives_in server past
   pub asked : All (IsAsked server past) (lives_of lives ++ cut)
   pub cut_off : All (IsCut (name_of setup server) server past) cut
 
 -- so it is with each server; where one has no list it was not started
-pub record AreLivesSoFar (setup : Setup) (past : List Event) (lives : List (List Ending)) (cut : List (List Life)) : Type 0 where
+pub record AreLivesSoFar (setup : Setup) (past : List Event) (lives : List (List Ending)) (cut : List (List LifeState)) : Type 0 where
   pub lives_count : length lives ≤ length setup.servers
   pub cut_count : length cut ≤ length setup.servers
   pub each : (server : ℕ) → 0 < server → server < length setup.servers + 1 → AreLivesOf setup past server (list_in (numbered server lives)) (list_in (numbered server cut))
@@ -179,7 +179,7 @@ HasStarters (Worn stamp) setup starters = length starters ≡ length setup.serve
 
 -- the merged events are the first of a run, and lawful, and the lives and the starters' starts are those of these events; of the clients only their number counts, and of
 -- what the links of lives that ended show nothing is said
-pub record IsServedSoFar {S : Type 0} (shows : S → StarterShows) (halt : Halt) (setup : Setup) (clients : ℕ) (events : List Event) (lives : List (List Ending)) (cut : List (List Life)) (starters : List S) : Type 0 where
+pub record IsServedSoFar {S : Type 0} (shows : S → StarterShows) (halt : Halt) (setup : Setup) (clients : ℕ) (events : List Event) (lives : List (List Ending)) (cut : List (List LifeState)) (starters : List S) : Type 0 where
   pub run : Run (opening setup clients) events (record { setup = setup; clients = clients; past = reverse events })
   pub lawful : IsLawful clients (reverse events)
   pub made : All IsMade (reverse events)

@@ -14,7 +14,7 @@ ghost use Rattle.xa_client_worker.specs.xa_worker.Crew.{IsCrew, AllMet, IsNextSt
 ghost use Rattle.xa_client_worker.specs.xa_worker.Ending.{workers_of};
 ghost use Rattle.xa_client_worker.specs.xa_worker.Orders.{AllNext};
 ghost use Rattle.xa_client_worker.specs.xa_worker.Seen.{past_in};
-ghost use Rattle.xa_client_worker.specs.xa_worker.Work.{Standing as Working};
+ghost use Rattle.xa_client_worker.specs.xa_worker.Work.{WorkState};
 ghost use Rattle.xa_client_worker.specs.xa_desk.declared.domain.Domain.{Domain};
 ghost use Rattle.xa_client_worker.specs.xa_desk.declared.desk.Desk.{Desk};
 ghost use Rattle.xa_client_worker.specs.xa_desk.Desks.{GoesOn, FitsCalls};
@@ -22,31 +22,31 @@ ghost use Rattle.xa_history.specs.Joined.{Back, AllLeft, whole_of, kept_of, note
 
 /// What each desk asks of the homes in the end holds of them, once all workers have left.
 pub fn desks_go_on()
-    ensures { (d : Domain) (b : Back) (domain : Working) (desks : List Desk) → AllLeft d b domain desks → All (GoesOn d (whole_of d b)) desks }
+    ensures { (d : Domain) (b : Back) (domain : WorkState) (desks : List Desk) → AllLeft d b domain desks → All (GoesOn d (whole_of d b)) desks }
 {}
 
 /// Workers that have left are a crew.
 pub fn desks_are_crew()
-    ensures { (d : Domain) (b : Back) (domain : Working) (desks : List Desk) → AllLeft d b domain desks → IsCrew d.setup d.clients (workers_of d.setup d.clients) (kept_of b) (noted_of domain desks) }
+    ensures { (d : Domain) (b : Back) (domain : WorkState) (desks : List Desk) → AllLeft d b domain desks → IsCrew d.setup d.clients (workers_of d.setup d.clients) (kept_of b) (noted_of domain desks) }
 {}
 
 /// At each shared home each event met what is asked of the home's events before it, and each take of a queue gave the next
 /// request.
 pub fn homes_are_met()
-    ensures met { (d : Domain) (b : Back) (domain : Working) (desks : List Desk) → AllLeft d b domain desks → AllMet d.setup (kept_of b) }
-    ensures next { (d : Domain) (b : Back) (domain : Working) (desks : List Desk) → AllLeft d b domain desks → AllNext d.setup (kept_of b) }
+    ensures met { (d : Domain) (b : Back) (domain : WorkState) (desks : List Desk) → AllLeft d b domain desks → AllMet d.setup (kept_of b) }
+    ensures next { (d : Domain) (b : Back) (domain : WorkState) (desks : List Desk) → AllLeft d b domain desks → AllNext d.setup (kept_of b) }
 {}
 
 /// Each stamp of a worker is one more than that of an event, or than 0.
 pub fn stamps_are_next()
-    ensures { (d : Domain) (b : Back) (domain : Working) (desks : List Desk) → AllLeft d b domain desks
+    ensures { (d : Domain) (b : Back) (domain : WorkState) (desks : List Desk) → AllLeft d b domain desks
         → (worker : ℕ) → worker < workers_of d.setup d.clients → All (λ (x : Stamped). IsNextStamp (λ home. noted_in (kept_of b home)) x.stamp) (noted_of domain desks worker) }
 {}
 
 /// A client whose desk shows that each of its events fits a call, and which came to its last one, made its calls by its own
 /// events and by what it saw.
 pub fn client_made_its_own()
-    ensures { (d : Domain) (b : Back) (domain : Working) (desks : List Desk) → AllLeft d b domain desks → (client : ℕ) (desk : Desk) → numbered client desks ≡ Some desk → (ops : List Op) → FitsCalls d ops desk
+    ensures { (d : Domain) (b : Back) (domain : WorkState) (desks : List Desk) → AllLeft d b domain desks → (client : ℕ) (desk : Desk) → numbered client desks ≡ Some desk → (ops : List Op) → FitsCalls d ops desk
         → last_op client (worker_events d.clients client (past_in desk.caller.work.own)) ≡ length ops → awaits_answer ops (newest_call client (worker_events d.clients client (past_in desk.caller.work.own))) ≡ false
         → MadeOwn d.setup d.clients (λ home. noted_in (kept_of b home)) client ops (noted_of domain desks client) }
 {}

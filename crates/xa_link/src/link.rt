@@ -35,7 +35,7 @@ impl<L> Drop for Closed<L> {
 
 impl<L> Closed<L> {
     /// What is left of a link that was so, and how its process ended, where that is known.
-    pub fn new(was: Snapshot<L>, end: Option<ProcessEnd>) -> Closed<L>
+    pub(crate) fn new(was: Snapshot<L>, end: Option<ProcessEnd>) -> Closed<L>
         ensures was { result.was ≡ was }
         ensures end { result.end ≡ end }
     {

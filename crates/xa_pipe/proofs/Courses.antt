@@ -23,7 +23,7 @@ use Rattle.xa_pipe.specs.Frames.{ready_frame, next_frame, shutdown_frame, finish
 use Rattle.xa_pipe.specs.Life.{Turn, Finish, Says, MaySay, Took, Gave, LinkShows, IsCounted, awaiting, is_reading, is_writing, may_end, tag_after, turn_behind, finishes_in}
 use Rattle.xa_pipe.specs.Life.Says.{Silent, Named, Free, Invoked, Answers, Passes}
 use Rattle.xa_pipe.specs.Pipe.{Piped, shown, invoke_frame, Wrote, HasRead, Ceases, CountsReads, CountsWrites}
-use Rattle.xa_pipe.specs.Standing.{Standing, IsSound, IsCutOff, IsOver, cut_short, GaveFirst, fate_by, tag_of, due_in}
+use Rattle.xa_pipe.specs.Standing.{LifeState, IsSound, IsCutOff, IsOver, cut_short, GaveFirst, fate_by, tag_of, due_in}
 use Rattle.xa_pipe.specs.Changes.{Heard, Greeted, Invoked as HasInvoked, turn_after, with_said, with_asked, next_invoke}
 use Rattle.xa_pipe.specs.Kept.{standing_of, ending_of, fate_left, IsKept, tag_after_turn, unwritten}
 use Rattle.xa_pipe.proofs.Frames.{told_more, read_same}
@@ -87,13 +87,13 @@ module _ (name : List ℕ) where
   heard_tag frames Exited tag f is may = absurd may
 
 -- READY, and NEXT behind it
-pub greets : (old mid new : Standing) (f : Frame) → old.turn ≡ AwaitsReady → Heard f mid old → Heard next_frame new mid → Greeted new old
+pub greets : (old mid new : LifeState) (f : Frame) → old.turn ≡ AwaitsReady → Heard f mid old → Heard next_frame new mid → Greeted new old
 greets old mid new f ready first next =
     let is : f ≡ ready_frame old.name = subst (λ (t : Turn). MaySay old.name (tag_of old) t f) ready first.may in
     let both : (old.said ++ f ∷ []) ++ next_frame ∷ [] ≡ old.said ++ ready_frame old.name ∷ next_frame ∷ []
     = ap (λ (g : Frame). (old.said ++ g ∷ []) ++ next_frame ∷ []) is ∙ append_assoc old.said (ready_frame old.name ∷ []) (next_frame ∷ []) in
     record {
-      made = next.made ∙ (ap (λ (m : Standing). with_said next_frame new.link m) first.made
+      made = next.made ∙ (ap (λ (m : LifeState). with_said next_frame new.link m) first.made
           ∙ (ap (λ (t : Turn). record old { link = new.link; said = (old.said ++ f ∷ []) ++ next_frame ∷ []; turn = turn_after (turn_after t f.body) Next }) ready
           ∙ ap (λ (fs : List Frame). record old { link = new.link; said = fs; turn = AwaitsInvoke }) both));
       took = next.took ∙ first.took;
@@ -116,8 +116,8 @@ ok_more (Err error) is so follows h = tt
 
 module _ {L : Type 0} where
   -- whose turn it is, as clauses see it
-  pub in_turn : (c : Course L) (s : Standing) (turn : Turn) → standing_of c ≡ s → s.turn ≡ turn → c.turn ≡ turn
-  in_turn c s turn is at = ap (λ (x : Standing). x.turn) is ∙ at
+  pub in_turn : (c : Course L) (s : LifeState) (turn : Turn) → standing_of c ≡ s → s.turn ≡ turn → c.turn ≡ turn
+  in_turn c s turn is at = ap (λ (x : LifeState). x.turn) is ∙ at
 
   pub kept_begun : (c : Course L) → c.asked ≡ [] → c.said ≡ [] → c.turn ≡ AwaitsReady → c.tag ≡ 1 → Wrote c.pipe [] → HasRead c.pipe []
       → IsFresh c.name c.generation (shown c.pipe) → IsKept c
@@ -304,7 +304,7 @@ module _ {L : Type 0} where
   }
 
 -- and where it is cut
-pub cut_sound : (life : Standing) → IsSound life → IsCutOff (cut_short life)
+pub cut_sound : (life : LifeState) → IsSound life → IsCutOff (cut_short life)
 cut_sound life sound = record {
   says = sound.says;
   took = sound.took;

@@ -23,7 +23,7 @@ use Rattle.xa_pipe.specs.declared.turn.Turn.TheVariants.{AwaitsReady, AwaitsNext
 use Rattle.xa_pipe.specs.declared.turn.Written.TheVariants.{Whole, Cut, Missing}
 use Rattle.xa_pipe.specs.Frames.{is_of_life, is_take_in, written_at, ready_frame, next_frame, finish_frame, farewell, frames_out}
 use Rattle.xa_pipe.specs.Life.{Turn, Finish, LinkShows, Occurrence, Reasons, MayFail, EachCame, AllCame, EndsAs, ComesTo, stops_life, cause_of, cause_in, came_at, came_in, finishes_in, lost_by}
-use Rattle.xa_pipe.specs.Standing.{Standing, Ending, IsOver, IsLife}
+use Rattle.xa_pipe.specs.Standing.{LifeState, Ending, IsOver, IsLife}
 use Rattle.xa_pipe.specs.Changes.{begun, Heard, Fell, Greeted, Invoked, Unsent, ShutDown, Exits}
 use Rattle.xa_pipe.specs.Following.{is_of, Follows, Settled, EndsLast, HasStopped, IsSent, IsBorneOut, StandsIn}
 use Rattle.xa_pipe.proofs.Coming.{came_end, came_forward, came_push}
@@ -80,7 +80,7 @@ module _ (server g : ℕ) where
   taken_more t own asked f its taken = rw its (ap (λ (n : ℕ). n + 1) taken ∙ sym (length-append asked (f ∷ [])))
 
 module _ (setup : Setup) (Why : Reasons) where
-  came_by : (old : Standing) (own : List Event) (back : Finish) (tag : ℕ) (last : Occurrence) (came : List Occurrence) → came ≡ came_in old.server.0 old.generation.0 own ++ last ∷ []
+  came_by : (old : LifeState) (own : List Event) (back : Finish) (tag : ℕ) (last : Occurrence) (came : List Occurrence) → came ≡ came_in old.server.0 old.generation.0 own ++ last ∷ []
       → ComesTo setup Why back last → EachCame setup Why (finishes_in old.said) (came_in old.server.0 old.generation.0 own) → EachCame setup Why (finishes_in (old.said ++ finish_frame tag back ∷ [])) came
   came_by old own back tag last came is comes each =
       subst (λ (os : List Occurrence). EachCame setup Why (finishes_in (old.said ++ finish_frame tag back ∷ [])) os) (sym is)
@@ -96,7 +96,7 @@ module _ (setup : Setup) (Why : Reasons) where
 
 module _ (setup : Setup) {Why : Reasons} where
   -- an event that is none of the life's changes nothing
-  pub follows_idle : (life : Standing) (e : Event) (own : List Event) → is_of life.server.0 life.generation.0 e ≡ false → Follows setup Why life own → Follows setup Why life (e ∷ own)
+  pub follows_idle : (life : LifeState) (e : Event) (own : List Event) → is_of life.server.0 life.generation.0 e ≡ false → Follows setup Why life own → Follows setup Why life (e ∷ own)
   follows_idle life e own other old = record {
     alive = ends_idle life.server.0 life.generation.0 e own other ∙ old.alive;
     taken = taken_idle life.server.0 life.generation.0 e own other ∙ old.taken;
@@ -129,45 +129,45 @@ module _ (setup : Setup) {Why : Reasons} where
     came = subst (λ (os : List Occurrence). EachCame setup Why [] os) (sym nothing) tt;
   }
 
-  same_finishes : (old new : Standing) (own : List Event) (link : LinkShows) (said : List Frame) (turn : Turn) → new ≡ record old { link = link; said = said; turn = turn }
+  same_finishes : (old new : LifeState) (own : List Event) (link : LinkShows) (said : List Frame) (turn : Turn) → new ≡ record old { link = link; said = said; turn = turn }
       → finishes_in said ≡ finishes_in old.said → Follows setup Why old own → Follows setup Why new own
-  same_finishes old new own link said turn made none follows = subst (λ (s : Standing). Follows setup Why s own) (sym made) (record {
+  same_finishes old new own link said turn made none follows = subst (λ (s : LifeState). Follows setup Why s own) (sym made) (record {
     alive = follows.alive;
     taken = follows.taken;
     came = subst (λ (rs : List Finish). EachCame setup Why rs (came_in old.server.0 old.generation.0 own)) (sym none) follows.came;
   })
 
   -- its program greeted
-  pub follows_greeted : (old new : Standing) (own : List Event) → Greeted new old → Follows setup Why old own → Follows setup Why new own
+  pub follows_greeted : (old new : LifeState) (own : List Event) → Greeted new old → Follows setup Why old own → Follows setup Why new own
   follows_greeted old new own greeted follows =
       same_finishes old new own new.link _ AwaitsInvoke greeted.made (finishes_append old.said (ready_frame old.name ∷ next_frame ∷ []) ∙ append-nil (finishes_in old.said)) follows
 
   -- its program said NEXT
-  pub follows_next : (old new : Standing) (own : List Event) → Heard next_frame new old → Follows setup Why old own → Follows setup Why new own
+  pub follows_next : (old new : LifeState) (own : List Event) → Heard next_frame new old → Follows setup Why old own → Follows setup Why new own
   follows_next old new own heard follows = same_finishes old new own new.link _ _ heard.made (finishes_next old.said) follows
 
   -- a request was taken and sent
-  pub follows_take : (old new : Standing) (own : List Event) (t : Taken) (f : Frame) → is_of_life old.server.0 old.generation.0 t.server.0 t.generation.0 ≡ true → Invoked f new old
+  pub follows_take : (old new : LifeState) (own : List Event) (t : Taken) (f : Frame) → is_of_life old.server.0 old.generation.0 t.server.0 t.generation.0 ≡ true → Invoked f new old
       → Follows setup Why old own → Follows setup Why new (Take t ∷ own)
-  follows_take old new own t f its invoked follows = subst (λ (s : Standing). Follows setup Why s (Take t ∷ own)) (sym invoked.made) (record {
+  follows_take old new own t f its invoked follows = subst (λ (s : LifeState). Follows setup Why s (Take t ∷ own)) (sym invoked.made) (record {
     alive = follows.alive;
     taken = taken_more old.server.0 old.generation.0 t own old.asked f its follows.taken;
     came = subst (λ (os : List Occurrence). EachCame setup Why (finishes_in old.said) os) (sym (append-nil (came_in old.server.0 old.generation.0 own))) follows.came;
   })
 
   -- its RETURN or FORWARD was heard, and the request ended as that says
-  pub follows_end : (old new : Standing) (own : List Event) (e : Ended) (back : Finish) (tag : ℕ) → is_of_life old.server.0 old.generation.0 e.server.0 e.generation.0 ≡ true
+  pub follows_end : (old new : LifeState) (own : List Event) (e : Ended) (back : Finish) (tag : ℕ) → is_of_life old.server.0 old.generation.0 e.server.0 e.generation.0 ≡ true
       → Heard (finish_frame tag back) new old → ComesTo setup Why back (record { event = End e; before = own }) → Follows setup Why old own → Follows setup Why new (End e ∷ own)
-  follows_end old new own e back tag its heard comes follows = subst (λ (s : Standing). Follows setup Why s (End e ∷ own)) (sym heard.made) (record {
+  follows_end old new own e back tag its heard comes follows = subst (λ (s : LifeState). Follows setup Why s (End e ∷ own)) (sym heard.made) (record {
     alive = follows.alive;
     taken = follows.taken;
     came = came_by setup Why old own back tag (record { event = End e; before = own }) (came_in old.server.0 old.generation.0 (End e ∷ own)) (came_end old.server.0 old.generation.0 e own its) comes follows.came;
   })
 
   -- its FORWARD was heard, and the request was forwarded
-  pub follows_forward : (old new : Standing) (own : List Event) (f : Forwarded) (back : Finish) (tag : ℕ) → is_of_life old.server.0 old.generation.0 f.server.0 f.generation.0 ≡ true
+  pub follows_forward : (old new : LifeState) (own : List Event) (f : Forwarded) (back : Finish) (tag : ℕ) → is_of_life old.server.0 old.generation.0 f.server.0 f.generation.0 ≡ true
       → Heard (finish_frame tag back) new old → ComesTo setup Why back (record { event = Forward f; before = own }) → Follows setup Why old own → Follows setup Why new (Forward f ∷ own)
-  follows_forward old new own f back tag its heard comes follows = subst (λ (s : Standing). Follows setup Why s (Forward f ∷ own)) (sym heard.made) (record {
+  follows_forward old new own f back tag its heard comes follows = subst (λ (s : LifeState). Follows setup Why s (Forward f ∷ own)) (sym heard.made) (record {
     alive = follows.alive;
     taken = follows.taken;
     came = came_by setup Why old own back tag (record { event = Forward f; before = own }) (came_in old.server.0 old.generation.0 (Forward f ∷ own)) (came_forward old.server.0 old.generation.0 f own its) comes follows.came;
@@ -176,23 +176,23 @@ module _ (setup : Setup) {Why : Reasons} where
   -- ---- as it ends
 
   -- with no request in hand
-  settles : (old : Standing) (over : Ending) (own : List Event) (link : LinkShows) → over.life ≡ record old { link = link } → (old.turn ≡ Serving → ⊥) → Follows setup Why old own → Settled setup Why over own
+  settles : (old : LifeState) (over : Ending) (own : List Event) (link : LinkShows) → over.life ≡ record old { link = link } → (old.turn ≡ Serving → ⊥) → Follows setup Why old own → Settled setup Why over own
   settles old over own link made free follows = by_life over.life over.cause made
     where
-      by_life : (life : Standing) (cause : StopCause) → life ≡ record old { link = link } → Settled setup Why (record over { life = life; cause = cause }) own
-      by_life life cause is = subst (λ (s : Standing). Settled setup Why (record over { life = s; cause = cause }) own) (sym is) (record {
+      by_life : (life : LifeState) (cause : StopCause) → life ≡ record old { link = link } → Settled setup Why (record over { life = life; cause = cause }) own
+      by_life life cause is = subst (λ (s : LifeState). Settled setup Why (record over { life = s; cause = cause }) own) (sym is) (record {
         alive = follows.alive;
         taken = follows.taken;
         came = none_lost setup Why cause old.turn (finishes_in old.said) (came_in old.server.0 old.generation.0 own) free follows.came;
       })
 
-  pub settles_fallen : (old : Standing) (over : Ending) (own : List Event) → Fell over old → (old.turn ≡ Serving → ⊥) → Follows setup Why old own → Settled setup Why over own
+  pub settles_fallen : (old : LifeState) (over : Ending) (own : List Event) → Fell over old → (old.turn ≡ Serving → ⊥) → Follows setup Why old own → Settled setup Why over own
   settles_fallen old over own fell free follows = settles old over own over.life.link fell.life free follows
 
-  pub settles_shut : (old : Standing) (over : Ending) (own : List Event) → ShutDown over old → old.turn ≡ AwaitsInvoke → Follows setup Why old own → Settled setup Why over own
+  pub settles_shut : (old : LifeState) (over : Ending) (own : List Event) → ShutDown over old → old.turn ≡ AwaitsInvoke → Follows setup Why old own → Settled setup Why over own
   settles_shut old over own shut idle follows = settles old over own over.life.link shut.life (λ h. cc (h, idle)) follows
 
-  pub settles_exited : (old : Standing) (over : Ending) (own : List Event) → Exits over old → old.turn ≡ Exited → Follows setup Why old own → Settled setup Why over own
+  pub settles_exited : (old : LifeState) (over : Ending) (own : List Event) → Exits over old → old.turn ≡ Exited → Follows setup Why old own → Settled setup Why over own
   settles_exited old over own exits done follows = settles old over own (closed old.link) exits.life (λ h. cc (h, done)) follows
 
   -- with the request in hand
@@ -206,18 +206,18 @@ module _ (setup : Setup) {Why : Reasons} where
   }
 
   -- as its RETURN or FORWARD was to come
-  pub settles_lost : (old : Standing) (over : Ending) (own : List Event) (e : Ended) → Fell over old → old.turn ≡ Serving → is_of_life over.life.server.0 over.life.generation.0 e.server.0 e.generation.0 ≡ true
+  pub settles_lost : (old : LifeState) (over : Ending) (own : List Event) (e : Ended) → Fell over old → old.turn ≡ Serving → is_of_life over.life.server.0 over.life.generation.0 e.server.0 e.generation.0 ≡ true
       → e.outcome ≡ lost_by over.cause → Follows setup Why old own → Settled setup Why over (End e ∷ own)
   settles_lost old over own e fell serving its ends follows =
-      loses over own e (ap (λ (s : Standing). s.turn) fell.life ∙ serving) its ends (subst (λ (s : Standing). Follows setup Why s own) (sym fell.life) (record { alive = follows.alive; taken = follows.taken; came = follows.came }))
+      loses over own e (ap (λ (s : LifeState). s.turn) fell.life ∙ serving) its ends (subst (λ (s : LifeState). Follows setup Why s own) (sym fell.life) (record { alive = follows.alive; taken = follows.taken; came = follows.came }))
 
   -- as its INVOKE was to be written
-  pub settles_unsent : (old : Standing) (over : Ending) (own : List Event) (t : Taken) (e : Ended) (f : Frame) → Unsent f over old
+  pub settles_unsent : (old : LifeState) (over : Ending) (own : List Event) (t : Taken) (e : Ended) (f : Frame) → Unsent f over old
       → is_of_life old.server.0 old.generation.0 t.server.0 t.generation.0 ≡ true → is_of_life over.life.server.0 over.life.generation.0 e.server.0 e.generation.0 ≡ true
       → e.outcome ≡ lost_by over.cause → Follows setup Why old own → Settled setup Why over (End e ∷ Take t ∷ own)
   settles_unsent old over own t e f unsent its ended ends follows =
-      loses over (Take t ∷ own) e (ap (λ (s : Standing). s.turn) unsent.life) ended ends
-      (subst (λ (s : Standing). Follows setup Why s (Take t ∷ own)) (sym unsent.life) (record {
+      loses over (Take t ∷ own) e (ap (λ (s : LifeState). s.turn) unsent.life) ended ends
+      (subst (λ (s : LifeState). Follows setup Why s (Take t ∷ own)) (sym unsent.life) (record {
         alive = follows.alive;
         taken = taken_more old.server.0 old.generation.0 t own old.asked f its follows.taken;
         came = subst (λ (os : List Occurrence). EachCame setup Why (finishes_in old.said) os) (sym (append-nil (came_in old.server.0 old.generation.0 own))) follows.came;
@@ -302,7 +302,7 @@ module _ (setup : Setup) (Why Still : Reasons) where
     led_still (c ∷ came) = ((refl, λ back comes. comes_led back c.event c.before c.before (leads_at c.event c.before) comes), led_still came)
 
     -- so it was for reasons that follow from these, and so it is of a life that ended
-    pub follows_led : (life : Standing) (own : List Event) → Follows setup Why life own → Follows setup Still life own
+    pub follows_led : (life : LifeState) (own : List Event) → Follows setup Why life own → Follows setup Still life own
     follows_led life own old = record {
       alive = old.alive;
       taken = old.taken;

@@ -6,7 +6,7 @@ use Rattle.xa_pipe.specs.declared.over.EndedLife.TheInside.{Inside}
 use Rattle.xa_pipe.specs.declared.over.Pipes.{Pipes}
 use Rattle.xa_pipe.specs.declared.over.Pipes.TheVariants.{Open, Closed, Killed}
 use Rattle.xa_pipe.specs.Life.{LinkShows}
-use Rattle.xa_pipe.specs.Standing.{Standing, Ending}
+use Rattle.xa_pipe.specs.Standing.{LifeState, Ending}
 
 module _ {L : Type 0} where
   -- what the pipes show; where they are closed, what they showed then
@@ -39,5 +39,5 @@ module _ {L : Type 0} where
   closed_show shows closed = shows closed.was.value
 
   -- the life that was cut, as it stood then
-  abbrev pub cut_at : (L → LinkShows) → Cut L → Standing
+  abbrev pub cut_at : (L → LinkShows) → Cut L → LifeState
   cut_at shows c = record { name = c.name; server = c.server; generation = c.generation; link = closed_show shows c.killed; asked = c.asked; said = c.said; turn = c.turn }

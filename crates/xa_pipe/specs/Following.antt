@@ -12,7 +12,7 @@ use Rattle.xa_frame.specs.declared.frame.Frame.{Frame}
 use Rattle.xa_pipe.specs.declared.turn.Turn.TheVariants.{AwaitsInvoke}
 use Rattle.xa_pipe.specs.Frames.{is_of_life, is_take_in, invocation, invoke_with}
 use Rattle.xa_pipe.specs.Life.{Reasons, MayFail, EachCame, AllCame, StopsClosed, stops_life, came_in, cause_of, finishes_in}
-use Rattle.xa_pipe.specs.Standing.{Standing, Ending}
+use Rattle.xa_pipe.specs.Standing.{LifeState, Ending}
 
 -- the event is one of that life: a take, what became of it, or the life's end
 abbrev pub is_of : ℕ → ℕ → Event → Bool
@@ -23,7 +23,7 @@ is_of server g (Stop x) = is_of_life server g x.server.0 x.generation.0
 is_of server g _ = false
 
 -- so far there was a take for each INVOKE, each RETURN and FORWARD came to its event, and no end of the life was noted
-pub record Follows (setup : Setup) (Why : Reasons) (life : Standing) (own : List Event) : Type 0 where
+pub record Follows (setup : Setup) (Why : Reasons) (life : LifeState) (own : List Event) : Type 0 where
   pub alive : count (stops_life life.server.0 life.generation.0) own ≡ 0
   pub taken : count (is_take_in life.server.0 life.generation.0) own ≡ length life.asked
   pub came : EachCame setup Why (finishes_in life.said) (came_in life.server.0 life.generation.0 own)

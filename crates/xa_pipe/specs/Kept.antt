@@ -11,7 +11,7 @@ use Rattle.xa_pipe.specs.declared.turn.Written.TheVariants.{Cut, Missing}
 use Rattle.xa_pipe.specs.declared.turn.Turn.{Turn}
 use Rattle.xa_pipe.specs.declared.turn.Turn.TheVariants.{Serving}
 use Rattle.xa_pipe.specs.Pipe.{HasRead, shown}
-use Rattle.xa_pipe.specs.Standing.{Standing, Ending, IsSound, tag_of, is_killed, is_open}
+use Rattle.xa_pipe.specs.Standing.{LifeState, Ending, IsSound, tag_of, is_killed, is_open}
 
 -- the number of the next INVOKE behind what the program said in that turn
 abbrev pub tag_after_turn : Turn → ℕ → ℕ
@@ -34,7 +34,7 @@ abbrev pub left_by : StopCause → LinkShows → LinkShows
 left_by cause link = record link { program = record link.program { fate = fate_left cause link.program.fate } }
 
 module _ {L : Type 0} where
-  abbrev pub standing_of : Course L → Standing
+  abbrev pub standing_of : Course L → LifeState
   standing_of c = record { name = c.name; server = c.server; generation = c.generation; link = shown c.pipe; asked = c.asked; said = c.said; turn = c.turn }
 
   pub record IsKept (c : Course L) : Type 0 where

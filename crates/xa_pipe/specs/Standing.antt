@@ -18,7 +18,7 @@ use Rattle.xa_pipe.specs.Life.{Turn, Written, LifeId, LinkShows, LastTurn, Says,
 
 -- what a life is: its server's name and number, its generation, what its link shows, the INVOKEs that were written to it, what its program said,
 -- and what comes next
-pub record Standing : Type 0 where
+pub record LifeState : Type 0 where
   pub name : List ℕ
   pub server : ServerId
   pub generation : Generation
@@ -28,14 +28,14 @@ pub record Standing : Type 0 where
   pub turn : Turn
 
 -- how many invocations its program answered, by a RETURN or a FORWARD
-abbrev pub returned : Standing → ℕ
+abbrev pub returned : LifeState → ℕ
 returned life = length (finishes_in life.said)
 
 -- the tag of the next RETURN or FORWARD, which is the number of the INVOKE in hand or else of the next one
-abbrev pub tag_of : Standing → ℕ
+abbrev pub tag_of : LifeState → ℕ
 tag_of life = tag_after (returned life)
 
-abbrev pub id_of : Standing → LifeId
+abbrev pub id_of : LifeState → LifeId
 id_of life = record { name = life.name; server = life.server.0; generation = life.generation.0 }
 
 -- the octets, where they are told, begin with those of these frames
@@ -44,7 +44,7 @@ GaveFirst gave frames = IfSome gave (λ octets. (rest : List ℕ) × (octets ≡
 
 -- what holds of a life of whose program that became: it spoke in turn, the octets that went to it are those of the INVOKEs, those that came from it
 -- begin with those of what it said, nothing failed, and its link is its own
-pub record SoundWith (became : Fate) (life : Standing) : Type 0 where
+pub record SoundWith (became : Fate) (life : LifeState) : Type 0 where
   pub says : Says life.name (returned life) life.said life.turn
   pub took : IfSome life.link.took (λ octets. octets ≡ all_spelled life.asked)
   pub gave : GaveFirst life.link.gave life.said
@@ -54,15 +54,15 @@ pub record SoundWith (became : Fate) (life : Standing) : Type 0 where
   pub fate : HasFate became life.link.program
 
 -- a life that goes on: its program runs
-abbrev pub IsSound : Standing → Type 0
+abbrev pub IsSound : LifeState → Type 0
 IsSound life = SoundWith fates.Running life
 
 -- a life that was cut: its program was ended by force
-abbrev pub IsCutOff : Standing → Type 0
+abbrev pub IsCutOff : LifeState → Type 0
 IsCutOff life = SoundWith fates.Killed life
 
 -- the life as it is cut
-abbrev pub cut_short : Standing → Standing
+abbrev pub cut_short : LifeState → LifeState
 cut_short life = record life { link = killed life.link }
 
 -- ---- a life that ended
@@ -70,7 +70,7 @@ cut_short life = record life { link = killed life.link }
 -- what is left of a life: how it stood in its last turn, why it ended, whether the last frame that was due was written, whether its program was
 -- ended by force, and whether its pipes are open
 pub record Ending : Type 0 where
-  pub life : Standing
+  pub life : LifeState
   pub cause : StopCause
   pub written : Written
   pub killed : Bool

@@ -29,10 +29,10 @@ pub struct Life<L: Link> {
 }
 
 impl<L: Link> Model for Life<L> {
-    ghost use Rattle.xa_pipe.specs.Standing.{Standing};
+    ghost use Rattle.xa_pipe.specs.Standing.{LifeState};
     ghost use Rattle.xa_pipe.specs.Kept.{standing_of, IsKept};
 
-    ghost Value = { Standing };
+    ghost Value = { LifeState };
 
     ghost view = { λ l. standing_of l.course };
 

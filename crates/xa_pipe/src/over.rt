@@ -111,10 +111,10 @@ pub struct CutLife<L: Link> {
 }
 
 impl<L: Link> Model for CutLife<L> {
-    ghost use Rattle.xa_pipe.specs.Standing.{Standing, IsCutOff};
+    ghost use Rattle.xa_pipe.specs.Standing.{LifeState, IsCutOff};
     ghost use Rattle.xa_pipe.specs.Ended.{cut_at};
 
-    ghost Value = { Standing };
+    ghost Value = { LifeState };
 
     ghost view = { λ c. cut_at L.Link.shows c };
 

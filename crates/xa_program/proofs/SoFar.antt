@@ -12,7 +12,7 @@ use Rattle.xa_domain.specs.xa_events.Words.{EachNumbered}
 use Rattle.xa_domain.specs.xa_worker.Ending.{list_in}
 use Rattle.xa_domain.specs.xa_worker.declared.work.Halt.TheVariants as halts
 use Rattle.xa_domain.specs.xa_script.declared.script.Client.{Client}
-use Rattle.xa_domain.specs.xa_pipe.Standing.{Standing as Life, Ending}
+use Rattle.xa_domain.specs.xa_pipe.Standing.{LifeState, Ending}
 use Rattle.xa_domain.specs.xa_server.Served.{StarterShows}
 use Rattle.xa_domain.specs.xa_server_worker.Lives.{lives_in, IsCut}
 use Rattle.xa_domain.specs.xa_history.Served.{IsServedSoFar, AreLives, AreLivesOf, AreLivesSoFar, IsAsked, IsStarterOf, IsStarterSoFar, generations_of, lives_of, name_of}
@@ -20,15 +20,15 @@ use Rattle.xa_domain.proofs.xa_history.Numbered.{each_at, numbered_there}
 use Rattle.xa_domain.specs.Serving.{IsNoneCut, ComesTo}
 
 -- of no server a life was cut
-nothing_in : (cut : List (List Life)) → IsNoneCut cut → (place : ℕ) (found : Option (List Life)) → slice_get cut place ≡ found → list_in found ≡ []
+nothing_in : (cut : List (List LifeState)) → IsNoneCut cut → (place : ℕ) (found : Option (List LifeState)) → slice_get cut place ≡ found → list_in found ≡ []
 nothing_in cut none place None is = refl
 nothing_in cut none place (Some its) is = sym (get_or_from_slice_get cut place its [] is) ∙ none place [] (slice_get_within cut place its is)
 
-none_cut : (cut : List (List Life)) → IsNoneCut cut → (server : ℕ) → list_in (numbered server cut) ≡ []
+none_cut : (cut : List (List LifeState)) → IsNoneCut cut → (server : ℕ) → list_in (numbered server cut) ≡ []
 none_cut cut none zero = refl
 none_cut cut none (suc place) = nothing_in cut none place (slice_get cut place) refl
 
-lives_so_far : (setup : Setup) (past : List Event) (lives : List (List Ending)) (cut : List (List Life)) → AreLives setup past lives → length cut ≡ length setup.servers → IsNoneCut cut
+lives_so_far : (setup : Setup) (past : List Event) (lives : List (List Ending)) (cut : List (List LifeState)) → AreLives setup past lives → length cut ≡ length setup.servers → IsNoneCut cut
     → AreLivesSoFar setup past lives cut
 lives_so_far setup past lives cut are count none = record {
   lives_count = let all = are.all in omega (arith, all);
@@ -38,7 +38,7 @@ lives_so_far setup past lives cut are count none = record {
       let there = numbered_there server lives low (omega (arith, high, all)) in
       let its = each_at (λ (n : ℕ) (its : List Ending). generations_of its ≡ lives_in n past) server lives there.0 are.each there.1 in
       let asked = each_at (λ (n : ℕ) (its : List Ending). All (IsAsked n past) (lives_of its)) server lives there.0 are.asked there.1 in
-      let Are : List Ending → List Life → Type 0 = AreLivesOf setup past server in
+      let Are : List Ending → List LifeState → Type 0 = AreLivesOf setup past server in
       subst (λ (o : Option (List Ending)). Are (list_in o) (list_in (numbered server cut))) (sym there.1) (subst (Are there.0) (sym (none_cut cut none server)) (record {
         are = append-nil (generations_of there.0) ∙ its;
         asked = subst (All (IsAsked server past)) (sym (append-nil (lives_of there.0))) asked;
@@ -52,7 +52,7 @@ starters_so_far shows setup past n [] each = tt
 starters_so_far shows setup past n (starter ∷ starters) each =
     (record { its = let first = each.0 in first.its; started = let first = each.0 in inl first.started }, starters_so_far shows setup past (n + 1) starters each.1)
 
-pub whole_so_far : {S : Type 0} (shows : S → StarterShows) (setup : Setup) (clients : List Client) (events : List Event) (lives : List (List Ending)) (cut : List (List Life)) (starters : List S)
+pub whole_so_far : {S : Type 0} (shows : S → StarterShows) (setup : Setup) (clients : List Client) (events : List Event) (lives : List (List Ending)) (cut : List (List LifeState)) (starters : List S)
     → ComesTo shows setup clients None events lives cut starters → IsServedSoFar shows halts.NoMemory setup (length clients) events lives cut starters
 whole_so_far shows setup clients events lives cut starters comes =
     let whole = comes.0 in

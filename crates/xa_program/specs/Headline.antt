@@ -13,7 +13,7 @@ use Rattle.xa_domain.specs.xa_script.Script.{IsScript, IsFirstFault}
 use Rattle.xa_text.specs.Transcript.{transcript}
 use Rattle.xa_domain.specs.xa_worker.declared.work.Halt.{Halt}
 use Rattle.xa_domain.specs.xa_worker.declared.work.Halt.TheVariants as halts
-use Rattle.xa_domain.specs.xa_pipe.Standing.{Standing as Life, Ending}
+use Rattle.xa_domain.specs.xa_pipe.Standing.{LifeState, Ending}
 use Rattle.xa_domain.specs.xa_server.Served.{StarterShows}
 use Rattle.xa_domain.specs.xa_history.Served.{IsRecorded, IsServedWhole, IsServedSoFar, IsWorn}
 use Rattle.xa_domain.specs.Serving.{HasHomes, IsNoneCut}
@@ -96,7 +96,7 @@ pub record Handed (S : Type 0) : Type 0 where
   pub homes : List Notes
   pub history : List Event
   pub lives : List (List Ending)
-  pub cut : List (List Life)
+  pub cut : List (List LifeState)
   pub starters : List S
 
 -- what the outcome hands back

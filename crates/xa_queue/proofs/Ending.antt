@@ -13,7 +13,7 @@ use Rattle.xa_events.specs.Request.{priority_at}
 use Rattle.xa_events.specs.Server.{is_gone, is_gone_of}
 use Rattle.xa_events.specs.Homes.Home.{QueueHome}
 use Rattle.xa_events.specs.Views.{QueueView, gone_from}
-use Rattle.xa_queue.specs.Queue.{Standing, past_of, has_server, all_gone, none_left}
+use Rattle.xa_queue.specs.Queue.{QueueState, past_of, has_server, all_gone, none_left}
 use Rattle.xa_queue.specs.Changes.{with_gone}
 use Rattle.xa_queue.specs.Reading.{Fits, IsRead, view_of}
 use Rattle.xa_queue.proofs.Waiting.{eqb-flips, list_any-map, list_any-reverse}
@@ -51,12 +51,12 @@ is_among server gone (s ∷ servers) all own =
 
 module _ {C : Type 0} where
   -- a server of the queue is given up by its events where it is so in its table
-  is_gone-read : (setup : Setup) (q : Standing C) (server : ℕ) → queue_of setup server ≡ q.id.0 → IsRead setup q → is_gone server (past_of q) ≡ list_any (λ gone. server == gone.0) q.gone
+  is_gone-read : (setup : Setup) (q : QueueState C) (server : ℕ) → queue_of setup server ≡ q.id.0 → IsRead setup q → is_gone server (past_of q) ≡ list_any (λ gone. server == gone.0) q.gone
   is_gone-read setup q server at read =
       sym (gone_read setup q.id.0 server at (past_of q)) ∙ ap (λ v. list_any (λ gone. server == gone) v.gone) (sym read.view)
       ∙ list_any-reverse (λ gone. server == gone) (map (λ s. s.0) q.gone) ∙ list_any-map (λ gone. server == gone) (λ (s : ServerId). s.0) q.gone
 
-  pub gave_up : (setup : Setup) (q : Standing C) (server : ServerId) → 0 < q.id.0 → has_server server q.servers ≡ true → has_server server q.gone ≡ false → Fits setup q → IsRead setup q → Parts setup (Gone server) q (with_gone server q)
+  pub gave_up : (setup : Setup) (q : QueueState C) (server : ServerId) → 0 < q.id.0 → has_server server q.servers ≡ true → has_server server q.gone ≡ false → Fits setup q → IsRead setup q → Parts setup (Gone server) q (with_gone server q)
   unfolding priority_at
   gave_up setup q server known own left fits read =
       let on : (queue_of setup server.0 == q.id.0) ≡ true = fits.servers server.0 ∙ own in
@@ -73,7 +73,7 @@ module _ {C : Type 0} where
         once = read.once;
       }
 
-  pub went_down : (setup : Setup) (q : Standing C) → 0 < q.capacity → none_left q ≡ true → q.down ≡ false → Fits setup q → IsRead setup q → Parts setup (Down q.id) q (record q { down = true })
+  pub went_down : (setup : Setup) (q : QueueState C) → 0 < q.capacity → none_left q ≡ true → q.down ≡ false → Fits setup q → IsRead setup q → Parts setup (Down q.id) q (record q { down = true })
   unfolding priority_at
   went_down setup q some deserted up fits read =
       let on : (q.id.0 == q.id.0) ≡ true = eq-eqb q.id.0 q.id.0 refl in
@@ -91,7 +91,7 @@ module _ {C : Type 0} where
         once = read.once;
       }
 
-  pub was_closed : (setup : Setup) (q : Standing C) → 0 < q.capacity → q.closed ≡ false → Fits setup q → IsRead setup q → Parts setup (Close q.id) q (record q { closed = true })
+  pub was_closed : (setup : Setup) (q : QueueState C) → 0 < q.capacity → q.closed ≡ false → Fits setup q → IsRead setup q → Parts setup (Close q.id) q (record q { closed = true })
   unfolding priority_at
   was_closed setup q some unshut fits read =
       let on : (q.id.0 == q.id.0) ≡ true = eq-eqb q.id.0 q.id.0 refl in

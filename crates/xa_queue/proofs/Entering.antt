@@ -19,7 +19,7 @@ use Rattle.xa_events.specs.Cases.{EntryHome}
 use Rattle.xa_events.specs.Views.{QueueView}
 use Rattle.xa_events.proofs.WordsLemmas.{same_request_of}
 use Rattle.xa_queue.specs.declared.entry.Entry.{Entry}
-use Rattle.xa_queue.specs.Queue.{Standing, past_of}
+use Rattle.xa_queue.specs.Queue.{QueueState, past_of}
 use Rattle.xa_queue.specs.declared.queue.Refusal.TheVariants as refusals
 use Rattle.xa_queue.specs.Changes.{IsEntry, larger, put_refused, with_entry}
 use Rattle.xa_queue.specs.Reading.{IsNew, Fits, IsRead, view_of}
@@ -31,12 +31,12 @@ module _ {C : Type 0} where
   request_of entry = entry.request
 
   -- the queue takes one more
-  pub record IsOpen (q : Standing C) : Type 0 where
+  pub record IsOpen (q : QueueState C) : Type 0 where
     pub up : q.down ≡ false
     pub open' : q.closed ≡ false
     pub room : length q.waiting < q.capacity
 
-  enter_home : (setup : Setup) (q : Standing C) (queue : QueueId) → queue ≡ q.id → Fits setup q → IsOpen q → IsRead setup q → EntryHome setup queue.0 (past_of q)
+  enter_home : (setup : Setup) (q : QueueState C) (queue : QueueId) → queue ≡ q.id → Fits setup q → IsOpen q → IsRead setup q → EntryHome setup queue.0 (past_of q)
   enter_home setup q queue same fits free read =
       let waits : length (waiting setup q.id.0 (past_of q)) ≡ length q.waiting = ap (λ view. length view.waiting) (sym read.view) ∙ length-map q.waiting request_of in
       subst (λ id. EntryHome setup id.0 (past_of q)) (sym same) (record {
@@ -58,11 +58,11 @@ module _ {C : Type 0} where
       let new : P entry = ap (λ b. priority_in (cond b (Some e) (latest (is_entry_of entry.request) past))) (enters entry.request ∙ same_request_of entry.request entry.request refl) ∙ own in
       All-push P waits entry old new
 
-  apart_of : (setup : Setup) (q : Standing C) (request : RequestId) → IsRead setup q → has request (waiting setup q.id.0 (past_of q)) ≡ false → list_any (same_request request) (map request_of q.waiting) ≡ false
+  apart_of : (setup : Setup) (q : QueueState C) (request : RequestId) → IsRead setup q → has request (waiting setup q.id.0 (past_of q)) ≡ false → list_any (same_request request) (map request_of q.waiting) ≡ false
   apart_of setup q request read new = ap (λ view. has request view.waiting) read.view ∙ new
 
   -- one request more in the view
-  enter_view : (q : Standing C) (entry : Entry C) (request : RequestId) (queue : QueueId) → request ≡ entry.request → queue ≡ q.id
+  enter_view : (q : QueueState C) (entry : Entry C) (request : RequestId) (queue : QueueId) → request ≡ entry.request → queue ≡ q.id
       → view_of (with_entry entry q) ≡ record (view_of q) { waiting = added (if queue.0 == q.id.0 then Some request else None) (map request_of q.waiting) }
   enter_view q entry request queue same here =
       let view : List RequestId → QueueView = λ waits. record (view_of q) { waiting = waits } in
@@ -71,7 +71,7 @@ module _ {C : Type 0} where
       ∙ ap (λ b. view (added (if b then Some request else None) (map request_of q.waiting))) (sym on)
 
   -- the request is new
-  is_new : (setup : Setup) (q : Standing C) (entry : Entry C) (request : RequestId) (queue : QueueId) → request ≡ entry.request → queue ≡ q.id → IsRead setup q
+  is_new : (setup : Setup) (q : QueueState C) (entry : Entry C) (request : RequestId) (queue : QueueId) → request ≡ entry.request → queue ≡ q.id → IsRead setup q
       → IfSome (if queue.0 == q.id.0 then Some request else None) (λ r. has r (waiting setup q.id.0 (past_of q)) ≡ false) → list_any (same_request entry.request) (map request_of q.waiting) ≡ false
   is_new setup q entry request queue same here read new =
       let on : (queue.0 == q.id.0) ≡ true = eq-eqb queue.0 q.id.0 (ap (λ id. id.0) here) in
@@ -79,7 +79,7 @@ module _ {C : Type 0} where
       let fresh : N request = subst (λ b. IfSome (if b then Some request else None) N) on new in
       apart_of setup q entry.request read (subst N same fresh)
 
-  pub entered : (setup : Setup) (q : Standing C) (e : Event) (entry : Entry C) → IsEntry q.id entry e → Fits setup q → IsOpen q → IsNew setup q.id.0 e (past_of q) → IsRead setup q → Parts setup e q (with_entry entry q)
+  pub entered : (setup : Setup) (q : QueueState C) (e : Event) (entry : Entry C) → IsEntry q.id entry e → Fits setup q → IsOpen q → IsNew setup q.id.0 e (past_of q) → IsRead setup q → Parts setup e q (with_entry entry q)
   entered setup q (Accept a) entry its fits free new read =
       let none = is_new setup q entry a.request a.queue its.0 its.1 read new in
       record {
@@ -103,10 +103,10 @@ module _ {C : Type 0} where
   entered setup q _ entry its fits free new read = absurd its
 
   -- where a put isn't refused
-  pub is_open : (seen : Stamp) (q : Standing C) → length q.waiting ≤ q.capacity → put_refused seen q ≡ None → IsOpen q
+  pub is_open : (seen : Stamp) (q : QueueState C) → length q.waiting ≤ q.capacity → put_refused seen q ≡ None → IsOpen q
   is_open seen q few allowed = by seen q few q.down refl q.closed refl allowed
     where
-      by : (seen : Stamp) (q : Standing C) → length q.waiting ≤ q.capacity → (b : Bool) → q.down ≡ b → (d : Bool) → q.closed ≡ d
+      by : (seen : Stamp) (q : QueueState C) → length q.waiting ≤ q.capacity → (b : Bool) → q.down ≡ b → (d : Bool) → q.closed ≡ d
           → (if b then Some refusals.Down else (if d then Some refusals.Closed else (if length q.waiting == q.capacity then Some (refusals.Full (length q.waiting)) else (if larger seen q == 2 ^ 63 then Some (refusals.Worn (record { 0 = 2 ^ 63 })) else None)))) ≡ None
           → IsOpen q
       by seen q few true is d is' allowed = absurd (cc allowed)

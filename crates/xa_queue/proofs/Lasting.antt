@@ -21,7 +21,7 @@ use Rattle.xa_stamp.proofs.Stamps.{Rises-push}
 use Rattle.xa_lock.specs.declared.makers.Made.{Made}
 use Rattle.xa_lock.specs.Makers.{KeptNotes, noted_in}
 use Rattle.xa_queue.specs.declared.entry.Entry.{Entry}
-use Rattle.xa_queue.specs.Queue.{Standing, IsSound, same_server, has_server, none_left, gives_up, events_of, past_of}
+use Rattle.xa_queue.specs.Queue.{QueueState, IsSound, same_server, has_server, none_left, gives_up, events_of, past_of}
 use Rattle.xa_queue.specs.Changes.{larger, next_stamp, IsEntry}
 use Rattle.xa_queue.specs.Kept.{servers_left}
 use Rattle.xa_queue.proofs.Waiting.{eqb-flips, IsDistinct-one_more}
@@ -129,21 +129,21 @@ length-noted_in entries = let bare : Made → Stamped = λ entry. entry.noted in
 
 module _ {C : Type 0} where
   -- the next stamp of a queue is the next one of its home
-  pub next-noted : (seen stamp : Stamp) (q : Standing C) (home : KeptNotes) → q.first ≡ home.first → home.entries ≡ q.entries → (larger seen q < 2 ^ 63) × (stamp ≡ next_stamp seen q) → (stamp.0 ≡ max seen.0 (last_stamp home.first (noted_in home.entries)) + 1) × (stamp.0 ≤ 2 ^ 63)
+  pub next-noted : (seen stamp : Stamp) (q : QueueState C) (home : KeptNotes) → q.first ≡ home.first → home.entries ≡ q.entries → (larger seen q < 2 ^ 63) × (stamp ≡ next_stamp seen q) → (stamp.0 ≡ max seen.0 (last_stamp home.first (noted_in home.entries)) + 1) × (stamp.0 ≤ 2 ^ 63)
   next-noted seen stamp q home first entries fresh =
       let same : larger seen q ≡ max seen.0 (last_stamp home.first (noted_in home.entries)) = ap (λ f. max seen.0 (last_stamp f (noted_in q.entries))) first ∙ ap (λ l. max seen.0 (last_stamp home.first (noted_in l))) (sym entries) in
       let is : stamp.0 ≡ larger seen q + 1 = ap (λ (s : Stamp). s.0) fresh.1 in
       (is ∙ ap (λ n. n + 1) same, omega (arith, is, fresh.0))
 
   -- a server is given up
-  pub own-noted : (q : Standing C) (server : ServerId) → IsSound q → has_server server q.servers ≡ true → All (λ s. has_server s q.servers ≡ true) (q.gone ++ server ∷ [])
+  pub own-noted : (q : QueueState C) (server : ServerId) → IsSound q → has_server server q.servers ≡ true → All (λ s. has_server s q.servers ≡ true) (q.gone ++ server ∷ [])
   own-noted q server sound own = All-push (λ s. has_server s q.servers ≡ true) q.gone server sound.own own
 
-  pub once-noted : (q : Standing C) (server : ServerId) → IsSound q → has_server server q.gone ≡ false → IsDistinct same_server (q.gone ++ server ∷ [])
+  pub once-noted : (q : QueueState C) (server : ServerId) → IsSound q → has_server server q.gone ≡ false → IsDistinct same_server (q.gone ++ server ∷ [])
   once-noted q server sound left = IsDistinct-one_more same_server same_server-flips q.gone server sound.once left
 
   -- what holds of a queue once the event is noted, but for its stamps
-  pub record Stays (e : Event) (q left : Standing C) : Type 0 where
+  pub record Stays (e : Event) (q left : QueueState C) : Type 0 where
     pub same : SameQueue q left
     pub few : length left.waiting ≤ left.capacity
     pub deserted : left.down ≡ true → none_left left ≡ true
@@ -154,7 +154,7 @@ module _ {C : Type 0} where
     pub fallen : left.down ≡ (is_down_of q.id.0 e || q.down)
 
   -- where the event ends nothing
-  pub quiet : (e : Event) (q : Standing C) (waits : List (Entry C)) (n : ℕ) → gives_up e ≡ [] → is_close_of q.id.0 e ≡ false → is_down_of q.id.0 e ≡ false → length waits ≤ q.capacity → IsSound q → Stays e q (record q { waiting = waits; takes = n })
+  pub quiet : (e : Event) (q : QueueState C) (waits : List (Entry C)) (n : ℕ) → gives_up e ≡ [] → is_close_of q.id.0 e ≡ false → is_down_of q.id.0 e ≡ false → length waits ≤ q.capacity → IsSound q → Stays e q (record q { waiting = waits; takes = n })
   quiet e q waits n none unshut up few sound = record {
     same = record { id = refl; capacity = refl; servers = refl; first = refl; entries = refl };
     few = few;
@@ -173,7 +173,7 @@ module _ {C : Type 0} where
   ends-nothing id entry _ its = absurd its
 
   -- what holds of a queue holds with one more event
-  pub sound-noted : (seen stamp : Stamp) (maker : CallerId) (e : Event) (q left : Standing C) (home home' : KeptNotes) → q.first ≡ home.first → home.entries ≡ q.entries → (stamp.0 ≡ max seen.0 (last_stamp home.first (noted_in home.entries)) + 1) × (stamp.0 ≤ 2 ^ 63)
+  pub sound-noted : (seen stamp : Stamp) (maker : CallerId) (e : Event) (q left : QueueState C) (home home' : KeptNotes) → q.first ≡ home.first → home.entries ≡ q.entries → (stamp.0 ≡ max seen.0 (last_stamp home.first (noted_in home.entries)) + 1) × (stamp.0 ≤ 2 ^ 63)
       → home'.entries ≡ home.entries ++ record { maker = maker; noted = record { stamp = stamp; event = e } } ∷ [] → IsSound q → Stays e q left → IsSound (record left { entries = home'.entries })
   unfolding is_closed is_down
   sound-noted seen stamp maker e q left home home' first at next more sound stays =

@@ -20,7 +20,7 @@ use Rattle.xa_events.specs.Views.{QueueView}
 use Rattle.xa_events.proofs.WordsLemmas.{same_request_of}
 use Rattle.xa_queue.specs.declared.entry.Entry.{Entry}
 use Rattle.xa_queue.specs.Line.{IsNext}
-use Rattle.xa_queue.specs.Queue.{Standing, IsSound, past_of, has_server, all_gone}
+use Rattle.xa_queue.specs.Queue.{QueueState, IsSound, past_of, has_server, all_gone}
 use Rattle.xa_queue.specs.Changes.{taken}
 use Rattle.xa_queue.specs.Reading.{Fits, IsRead, view_of}
 use Rattle.xa_queue.proofs.Keeping.{All-without}
@@ -40,24 +40,24 @@ not_all_gone server gone (s ∷ servers) own left all =
 
 module _ {C : Type 0} where
   -- a queue with a server that is left is not down
-  pub is_up : (q : Standing C) (server : ServerId) → IsSound q → has_server server q.servers ≡ true → has_server server q.gone ≡ false → q.down ≡ false
+  pub is_up : (q : QueueState C) (server : ServerId) → IsSound q → has_server server q.servers ≡ true → has_server server q.gone ≡ false → q.down ≡ false
   is_up q server sound own left = elim (cases_Bool q.down) [ inl down ↦ absurd (not_all_gone server q.gone q.servers own left (sound.deserted down)) | inr up ↦ up ]
 
   abbrev request_of : Entry C → RequestId
   request_of entry = entry.request
 
   -- what stays of the view's requests
-  stay : (q : Standing C) (front : List (Entry C)) (entry : Entry C) (back : List (Entry C)) → q.waiting ≡ front ++ entry ∷ back → IsDistinct same_request (map request_of q.waiting) → without (Some entry.request) (map request_of q.waiting) ≡ map request_of (front ++ back)
+  stay : (q : QueueState C) (front : List (Entry C)) (entry : Entry C) (back : List (Entry C)) → q.waiting ≡ front ++ entry ∷ back → IsDistinct same_request (map request_of q.waiting) → without (Some entry.request) (map request_of q.waiting) ≡ map request_of (front ++ back)
   stay q front entry back was once =
       let all : map request_of q.waiting ≡ map request_of front ++ entry.request ∷ map request_of back = ap (map request_of) was ∙ map-append request_of front (entry ∷ back) in
       ap (without (Some entry.request)) all ∙ without-one (map request_of front) entry.request (map request_of back) (subst (IsDistinct same_request) all once) ∙ sym (map-append request_of front back)
 
-  once_stay : (q : Standing C) (front : List (Entry C)) (entry : Entry C) (back : List (Entry C)) → q.waiting ≡ front ++ entry ∷ back → IsDistinct same_request (map request_of q.waiting) → IsDistinct same_request (map request_of (front ++ back))
+  once_stay : (q : QueueState C) (front : List (Entry C)) (entry : Entry C) (back : List (Entry C)) → q.waiting ≡ front ++ entry ∷ back → IsDistinct same_request (map request_of q.waiting) → IsDistinct same_request (map request_of (front ++ back))
   once_stay q front entry back was once =
       let all : map request_of q.waiting ≡ map request_of front ++ entry.request ∷ map request_of back = ap (map request_of) was ∙ map-append request_of front (entry ∷ back) in
       subst (IsDistinct same_request) (sym (map-append request_of front back)) (IsDistinct-without same_request (map request_of front) entry.request (map request_of back) (subst (IsDistinct same_request) all once))
 
-  pub took : (setup : Setup) (q : Standing C) (server : ServerId) (generation : Generation) (front : List (Entry C)) (entry : Entry C) (back : List (Entry C)) → q.waiting ≡ front ++ entry ∷ back → IsNext (q.takes + 1) front entry back → q.down ≡ false
+  pub took : (setup : Setup) (q : QueueState C) (server : ServerId) (generation : Generation) (front : List (Entry C)) (entry : Entry C) (back : List (Entry C)) → q.waiting ≡ front ++ entry ∷ back → IsNext (q.takes + 1) front entry back → q.down ≡ false
       → has_server server q.servers ≡ true → Fits setup q → IsRead setup q → Parts setup (taken entry server generation q) q (record q { waiting = front ++ back; takes = q.takes + 1 })
   unfolding priority_at
   took setup q server generation front entry back was next up own fits read =
@@ -82,7 +82,7 @@ module _ {C : Type 0} where
         once = once_stay q front entry back was read.once;
       }
 
-  pub swept : (setup : Setup) (q : Standing C) (entry : Entry C) (rest : List (Entry C)) → q.waiting ≡ entry ∷ rest → q.down ≡ true → IsRead setup q
+  pub swept : (setup : Setup) (q : QueueState C) (entry : Entry C) (rest : List (Entry C)) → q.waiting ≡ entry ∷ rest → q.down ≡ true → IsRead setup q
       → Parts setup (Sweep (record { request = entry.request; queue = q.id })) q (record q { waiting = rest })
   unfolding priority_at
   swept setup q entry rest was down read =

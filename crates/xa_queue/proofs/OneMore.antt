@@ -18,12 +18,12 @@ use Rattle.xa_events.proofs.Owns.{queue_more}
 use Rattle.xa_stamp.specs.declared.home.Stamped.{Stamped}
 use Rattle.xa_lock.specs.declared.makers.Made.{Made}
 use Rattle.xa_lock.specs.Makers.{noted_in}
-use Rattle.xa_queue.specs.Queue.{Standing, past_of}
+use Rattle.xa_queue.specs.Queue.{QueueState, past_of}
 use Rattle.xa_queue.specs.Changes.{noted}
 use Rattle.xa_queue.specs.Reading.{IsNew, AllNew, MetIfNew, Fits, IsRead, ReadsAsNoted, view_of}
 
 module _ {C : Type 0} where
-  pub past-noted : (stamp : Stamp) (maker : CallerId) (e : Event) (left : Standing C) → past_of (noted stamp maker e left) ≡ e ∷ past_of left
+  pub past-noted : (stamp : Stamp) (maker : CallerId) (e : Event) (left : QueueState C) → past_of (noted stamp maker e left) ≡ e ∷ past_of left
   past-noted stamp maker e left =
       let event : Stamped → Event = λ noted. noted.event in
       let bare : Made → Stamped = λ entry. entry.noted in
@@ -31,7 +31,7 @@ module _ {C : Type 0} where
       ap (λ l. reverse (map event l)) (map-append bare left.entries (record { maker = maker; noted = x } ∷ [])) ∙ ap reverse (map-append event (noted_in left.entries) (x ∷ [])) ∙ reverse-append (map event (noted_in left.entries)) (e ∷ [])
 
   -- what one event more asks for, which leaves the queue so
-  pub record Parts (setup : Setup) (e : Event) (q left : Standing C) : Type 0 where
+  pub record Parts (setup : Setup) (e : Event) (q left : QueueState C) : Type 0 where
     pub view : view_of left ≡ queue_after setup q.id.0 e (view_of q)
     pub stand : (clients : ℕ) → home_of setup clients e ≡ QueueHome q.id.0
     pub met : HomePart setup e (past_of q)
@@ -40,17 +40,17 @@ module _ {C : Type 0} where
     pub once : IsDistinct same_request (map (λ entry. entry.request) left.waiting)
 
   -- the same queue, but for its tables
-  pub record SameQueue (q left : Standing C) : Type 0 where
+  pub record SameQueue (q left : QueueState C) : Type 0 where
     pub id : left.id ≡ q.id
     pub capacity : left.capacity ≡ q.capacity
     pub servers : left.servers ≡ q.servers
     pub first : left.first ≡ q.first
     pub entries : left.entries ≡ q.entries
 
-  pub past-left : (stamp : Stamp) (maker : CallerId) (e : Event) (q left : Standing C) → SameQueue q left → past_of (noted stamp maker e left) ≡ e ∷ past_of q
+  pub past-left : (stamp : Stamp) (maker : CallerId) (e : Event) (q left : QueueState C) → SameQueue q left → past_of (noted stamp maker e left) ≡ e ∷ past_of q
   past-left stamp maker e q left same = past-noted stamp maker e left ∙ ap (λ entries. e ∷ reverse (map (λ noted. noted.event) (noted_in entries))) same.entries
 
-  read-noted : (setup : Setup) (stamp : Stamp) (maker : CallerId) (e : Event) (q left : Standing C) → SameQueue q left → IsRead setup q → Parts setup e q left → IsRead setup (noted stamp maker e left)
+  read-noted : (setup : Setup) (stamp : Stamp) (maker : CallerId) (e : Event) (q left : QueueState C) → SameQueue q left → IsRead setup q → Parts setup e q left → IsRead setup (noted stamp maker e left)
   read-noted setup stamp maker e q left same read parts =
       let past : past_of (noted stamp maker e left) ≡ e ∷ past_of q = past-left stamp maker e q left same in
       record {
@@ -61,8 +61,8 @@ module _ {C : Type 0} where
         once = parts.once;
       }
 
-  module _ (stamp : Stamp) (maker : CallerId) (e : Event) (q left : Standing C) (same : SameQueue q left) (reads : ReadsAsNoted q) (parts : (setup : Setup) → Fits setup q → IsNew setup q.id.0 e (past_of q) → IsRead setup q → Parts setup e q left) where
-    abbrev now : Standing C
+  module _ (stamp : Stamp) (maker : CallerId) (e : Event) (q left : QueueState C) (same : SameQueue q left) (reads : ReadsAsNoted q) (parts : (setup : Setup) → Fits setup q → IsNew setup q.id.0 e (past_of q) → IsRead setup q → Parts setup e q left) where
+    abbrev now : QueueState C
     now = noted stamp maker e left
 
     past : past_of now ≡ e ∷ past_of q

@@ -3,7 +3,7 @@ use Rattle.std.specs.Prelude.{◌≡◌, ℕ, ◌+◌, ◌<◌, ◌≤◌, cond,
 use Rattle.std.specs.List.{filter}
 use Rattle.xa_types.specs.declared.ids.ServerId.{ServerId}
 use Rattle.xa_queue.specs.declared.queue.Queue.TheInside.{Inside}
-use Rattle.xa_queue.specs.Queue.{Standing, IsSound, has_server}
+use Rattle.xa_queue.specs.Queue.{QueueState, IsSound, has_server}
 use Rattle.xa_queue.specs.Reading.{ReadsAsNoted}
 
 -- the servers that are left
@@ -11,7 +11,7 @@ abbrev pub servers_left : List ServerId → List ServerId → List ServerId
 servers_left gone servers = filter (λ server. not (has_server server gone)) servers
 
 module _ {C : Type 0} where
-  abbrev pub standing_of : Inside C → Standing C
+  abbrev pub standing_of : Inside C → QueueState C
   standing_of q = record {
     id = q.id;
     capacity = q.capacity;

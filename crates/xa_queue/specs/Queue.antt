@@ -16,7 +16,7 @@ use Rattle.xa_queue.specs.declared.entry.Entry.{Entry}
 -- what a queue is: its number, how many may wait, its servers, the stamp with which it begins, its events as they were noted, with their makers,
 -- the entries that wait, the oldest first, how many were taken, whether it is down and whether it is closed, and the servers that are given up, in
 -- that order
-pub record Standing (C : Type 0) : Type 0 where
+pub record QueueState (C : Type 0) : Type 0 where
   pub id : QueueId
   pub capacity : ℕ
   pub servers : List ServerId
@@ -46,19 +46,19 @@ gives_up _ = []
 
 module _ {C : Type 0} where
   -- the events that were noted, in order
-  abbrev pub events_of : Standing C → List Event
+  abbrev pub events_of : QueueState C → List Event
   events_of queue = map (λ noted. noted.event) (noted_in queue.entries)
 
   -- the same, the newest first
-  abbrev pub past_of : Standing C → List Event
+  abbrev pub past_of : QueueState C → List Event
   past_of queue = reverse (events_of queue)
 
   -- no server is left
-  abbrev pub none_left : Standing C → Bool
+  abbrev pub none_left : QueueState C → Bool
   none_left queue = all_gone queue.gone queue.servers
 
   -- what holds of each queue
-  pub record IsSound (queue : Standing C) : Type 0 where
+  pub record IsSound (queue : QueueState C) : Type 0 where
     pub few : length queue.waiting ≤ queue.capacity
     pub deserted : queue.down ≡ true → none_left queue ≡ true
     pub own : All (λ server. has_server server queue.servers ≡ true) queue.gone

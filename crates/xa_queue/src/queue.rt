@@ -68,9 +68,9 @@ pub struct Queue<C> {
 }
 
 impl<C> Model for Queue<C> {
-    ghost use Rattle.xa_queue.specs.Queue.{Standing};
+    ghost use Rattle.xa_queue.specs.Queue.{QueueState};
 
-    ghost Value = { Standing C };
+    ghost Value = { QueueState C };
 
     ghost use Rattle.xa_queue.specs.Kept.{standing_of, IsKept};
 

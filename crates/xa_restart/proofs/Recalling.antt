@@ -9,7 +9,7 @@ use Rattle.xa_types.specs.declared.setup.ServerSetup.{ServerSetup}
 use Rattle.xa_events.specs.Words.{count, greatest}
 use Rattle.xa_events.specs.Server.{may_start_as}
 use Rattle.xa_events.proofs.WordsLemmas.{count_yes, count_grows}
-use Rattle.xa_restart.specs.Rule.{Standing, IsRuleOf, IsLast, may_start_by}
+use Rattle.xa_restart.specs.Rule.{RestartState, IsRuleOf, IsLast, may_start_by}
 use Rattle.xa_restart.specs.Within.{is_within}
 use Rattle.xa_restart.specs.Kept.{is_nil, Recalls}
 
@@ -98,14 +98,14 @@ room_by restart maxgen grace recent starts now recalls may last false some =
     let same = recalls.same now last in
     omega (arith, few, same, le-max_right 1 maxgen)
 
-rule_of : (server : ServerSetup) (lives : Standing) (now : ℕ) (starts : List ℕ) → IsRuleOf server lives.restart lives.maxgen lives.grace → may_start_as (Some server) starts now ≡ may_start_by (record lives { starts = starts }) now
+rule_of : (server : ServerSetup) (lives : RestartState) (now : ℕ) (starts : List ℕ) → IsRuleOf server lives.restart lives.maxgen lives.grace → may_start_as (Some server) starts now ≡ may_start_by (record lives { starts = starts }) now
 rule_of server lives now [] rule = refl
 rule_of server lives now (last ∷ earlier) rule =
     ap (λ restart. restart && nat_lt (count (λ tick. nat_lt (now - tick) server.grace) (last ∷ earlier)) server.maxgen) rule.restart
     ∙ ap (λ grace. lives.restart && nat_lt (count (λ tick. nat_lt (now - tick) grace) (last ∷ earlier)) server.maxgen) rule.grace
     ∙ ap (λ maxgen. lives.restart && nat_lt (count (λ tick. nat_lt (now - tick) lives.grace) (last ∷ earlier)) maxgen) rule.maxgen
 
-pub rule_is : (server : ServerSetup) (lives : Standing) (now : ℕ) → IsRuleOf server lives.restart lives.maxgen lives.grace → may_start_as (Some server) lives.starts now ≡ may_start_by lives now
+pub rule_is : (server : ServerSetup) (lives : RestartState) (now : ℕ) → IsRuleOf server lives.restart lives.maxgen lives.grace → may_start_as (Some server) lives.starts now ≡ may_start_by lives now
 rule_is server lives now rule = rule_of server lives now lives.starts rule
 
 flag : (b : Bool) → (b ≡ true → ⊥) → b ≡ false
@@ -135,5 +135,5 @@ earlier_by restart maxgen grace (last ∷ rest) earlier now before no_start =
     more_no restart (count (is_within grace now) (last ∷ rest)) (count (is_within grace earlier) (last ∷ rest)) maxgen
     (count_fewer (is_within grace earlier) (is_within grace now) (λ start. within_earlier grace earlier now start before) (last ∷ rest)) no_start
 
-pub no_earlier : (lives : Standing) (earlier now : ℕ) → earlier ≤ now → may_start_by lives now ≡ false → may_start_by lives earlier ≡ false
+pub no_earlier : (lives : RestartState) (earlier now : ℕ) → earlier ≤ now → may_start_by lives now ≡ false → may_start_by lives earlier ≡ false
 no_earlier lives earlier now before no_start = earlier_by lives.restart lives.maxgen lives.grace lives.starts earlier now before no_start

@@ -1,11 +1,11 @@
 -- How the starts of a server are kept. No public contract rests on this file.
 use Rattle.std.specs.Prelude.{◌≡◌, ℕ, ◌≤◌, max, map, reverse, vec_capacity, Bool, true, false, List, [], ◌∷◌}
 use Rattle.xa_events.specs.Words.{count}
-use Rattle.xa_restart.specs.Rule.{Standing, IsLast}
+use Rattle.xa_restart.specs.Rule.{RestartState, IsLast}
 use Rattle.xa_restart.specs.Within.{is_within}
 use Rattle.xa_restart.specs.declared.lives.Lives.TheInside.{Inside}
 
-abbrev pub standing_of : Inside → Standing
+abbrev pub standing_of : Inside → RestartState
 standing_of l = record { restart = l.restart; maxgen = l.maxgen; grace = l.grace; starts = reverse (map (λ pair. pair.0) l.made.items) }
 
 abbrev pub is_nil : List ℕ → Bool

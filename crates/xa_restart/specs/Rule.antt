@@ -6,7 +6,7 @@ use Rattle.xa_events.specs.Words.{greatest}
 use Rattle.xa_events.specs.Server.{may_start_as}
 
 -- RESTART, MAXGEN and GRACE, and the ticks of all starts, of those that failed too, the newest first
-pub record Standing : Type 0 where
+pub record RestartState : Type 0 where
   pub restart : Bool
   pub maxgen : ℕ
   pub grace : ℕ
@@ -23,9 +23,9 @@ pub record IsRuleOf (server : ServerSetup) (restarts : Bool) (most within : ℕ)
   pub grace : server.grace ≡ within
 
 -- some server that is configured so
-abbrev pub server_of : Standing → ServerSetup
+abbrev pub server_of : RestartState → ServerSetup
 server_of lives = record { name = []; queue = []; program = None; restart = lives.restart; maxgen = lives.maxgen; grace = lives.grace }
 
 -- the server may be started at that tick
-abbrev pub may_start_by : Standing → ℕ → Bool
+abbrev pub may_start_by : RestartState → ℕ → Bool
 may_start_by lives now = may_start_as (Some (server_of lives)) lives.starts now

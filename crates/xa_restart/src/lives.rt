@@ -21,9 +21,9 @@ pub struct Lives {
 }
 
 impl Model for Lives {
-    ghost use Rattle.xa_restart.specs.Rule.{Standing};
+    ghost use Rattle.xa_restart.specs.Rule.{RestartState};
 
-    ghost Value = { Standing };
+    ghost Value = { RestartState };
 
     ghost use Rattle.xa_restart.specs.Kept.{standing_of, IsKept};
 

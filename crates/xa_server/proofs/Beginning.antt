@@ -13,13 +13,13 @@ use Rattle.xa_caller.specs.xa_events.Conversation.{connections}
 use Rattle.xa_caller.specs.xa_events.Views.{server_view}
 use Rattle.xa_caller.specs.xa_stamp.declared.home.Stamped.{Stamped}
 use Rattle.xa_caller.specs.xa_worker.Seen.{past_in}
-use Rattle.xa_restart.specs.Rule.{Standing as Restarts, IsRuleOf}
-use Rattle.xa_caller.specs.xa_worker.Work.{Standing, theirs}
+use Rattle.xa_restart.specs.Rule.{RestartState, IsRuleOf}
+use Rattle.xa_caller.specs.xa_worker.Work.{WorkState, theirs}
 use Rattle.xa_server.specs.Changes.{new_slot}
 use Rattle.xa_server.specs.Doings.{last_of}
 use Rattle.xa_server.specs.Slot.{Stands}
 
-pub new_stands : (server : ServerId) (restarts : Restarts) (w : Standing) → caller_of w.clients server.0 ≡ w.id.0 → IsSomeAnd (numbered server.0 w.setup.servers) (λ (configured : ServerSetup). IsRuleOf configured restarts.restart restarts.maxgen restarts.grace)
+pub new_stands : (server : ServerId) (restarts : RestartState) (w : WorkState) → caller_of w.clients server.0 ≡ w.id.0 → IsSomeAnd (numbered server.0 w.setup.servers) (λ (configured : ServerSetup). IsRuleOf configured restarts.restart restarts.maxgen restarts.grace)
     → restarts.starts ≡ [] → w.own ≡ [] → Stands (new_slot server restarts) w
 unfolding open_descriptors connections starts is_gone
 new_stands server restarts w number rule fresh none =

@@ -28,8 +28,8 @@ use Rattle.xa_caller.specs.xa_events.Views.{newer, ServerView, server_view, serv
 use Rattle.xa_caller.specs.xa_held.Kept.{Brings}
 use Rattle.xa_caller.specs.xa_queue.declared.entry.Entry.{Entry}
 use Rattle.xa_caller.specs.xa_stamp.declared.home.Stamped.{Stamped}
-use Rattle.xa_caller.specs.xa_worker.Work.{Standing, IsNext, theirs, noted}
-use Rattle.xa_caller.specs.Caller.{Standing as Caller, IsSound, AreRowsOf}
+use Rattle.xa_caller.specs.xa_worker.Work.{WorkState, IsNext, theirs, noted}
+use Rattle.xa_caller.specs.Caller.{CallerState, IsSound, AreRowsOf}
 use Rattle.xa_caller.specs.Drafts.{Cargo}
 use Rattle.xa_caller.proofs.Next.{row-priority, found-all}
 use Rattle.xa_restart.specs.Rule.{IsRuleOf}
@@ -57,10 +57,10 @@ reads_forwarded server view made begun doing last gone shut reads f its = let he
 of_forward : (clients : ℕ) (f : Forwarded) → IsServers f.server clients (Forward f)
 of_forward clients f = record { its = refl; opens = λ caller. refl; closes = λ caller. refl; connects = λ caller. refl; disconnects = λ caller. refl }
 
-module _ (entry : Entry Cargo) (event : Event) (slot : ServerSlot) (c : Caller) (way : IsOnWay entry event slot c) where
+module _ (entry : Entry Cargo) (event : Event) (slot : ServerSlot) (c : CallerState) (way : IsOnWay entry event slot c) where
   pub forwarded_stands : (stamp : Stamp) → c.work.stamp.0 < stamp.0 → Stands (record slot { doing = Idle (life_in slot.doing); last = lasts.Nothing }) (noted (record { stamp = stamp; event = event }) c.work)
   forwarded_stands stamp later =
-      let w : Standing = c.work in
+      let w : WorkState = c.work in
       let t = way.tables in
       let few = t.few in
       let ready = t.ready in
@@ -79,7 +79,7 @@ module _ (entry : Entry Cargo) (event : Event) (slot : ServerSlot) (c : Caller) 
   pub may_forwarded : IsSound c → IsNext c.work event
   unfolding doing versions next_priority
   may_forwarded sound =
-      let w : Standing = c.work in
+      let w : WorkState = c.work in
       let t = way.tables in
       let floor = sound.reads.floor in
       let recent = way.recent in
@@ -97,7 +97,7 @@ module _ (entry : Entry Cargo) (event : Event) (slot : ServerSlot) (c : Caller) 
       })
 
 -- what was made of a request that was out or in hand is on its way
-module _ (slot : ServerSlot) (c : Caller) (version : ℕ) (row : Row) (service : List ℕ) (its : row ≡ row_for c.work.setup service row.queue.0 row.routine) where
+module _ (slot : ServerSlot) (c : CallerState) (version : ℕ) (row : Row) (service : List ℕ) (its : row ≡ row_for c.work.setup service row.queue.0 row.routine) where
   pub on_way : (hop : ℕ) (payload : Data) (was entry : Entry Cargo) (event : Event) → GoesBy version row c.priority hop payload was entry event slot → Tables slot c.work → slot.doing ≡ Busy (life_in slot.doing) was.request → slot.hand ≡ None
       → hop ≤ 32 → is_sound c.work.setup payload ≡ true → c.least ≤ version → IsOnWay entry event slot c
   on_way hop payload was entry event goes tables busy out few sound recent =
@@ -155,7 +155,7 @@ read_of version read is = elim (cases_Bool (version == 0)) [
   | inr some ↦ let apart = eqb-false version 0 some in (some_is (sym (ap (λ b. if b then None else Some version) some) ∙ is), omega (arith, apart))
 ]
 
-pub may_failed : (slot : ServerSlot) (c : Caller) → Tables slot c.work → IsSound c → (entry : Entry Cargo) → slot.doing ≡ Busy (life_in slot.doing) entry.request → (version : ℕ) → (0 < version → c.least ≤ version) → IsNext c.work (End (end_of slot entry (BadForward version)))
+pub may_failed : (slot : ServerSlot) (c : CallerState) → Tables slot c.work → IsSound c → (entry : Entry Cargo) → slot.doing ≡ Busy (life_in slot.doing) entry.request → (version : ℕ) → (0 < version → c.least ≤ version) → IsNext c.work (End (end_of slot entry (BadForward version)))
 unfolding versions
 may_failed slot c tables sound entry busy version recent =
     let floor = sound.reads.floor in
@@ -164,7 +164,7 @@ may_failed slot c tables sound entry busy version recent =
 
 -- ---- where the worker saw a stamp, made room, or noted an event of the domain
 
-still_tables : (slot : ServerSlot) (old new : Standing) → SameWork new old → Tables slot old → Tables slot new
+still_tables : (slot : ServerSlot) (old new : WorkState) → SameWork new old → Tables slot old → Tables slot new
 still_tables slot old new same t =
     let few = t.few in
     let ready = t.ready in
@@ -184,7 +184,7 @@ still_tables slot old new same t =
       ready = omega (arith, ready, room);
     }
 
-pub still_on_way : (entry : Entry Cargo) (event : Event) (slot : ServerSlot) (old new : Caller) → SameWork new.work old.work → new.least ≡ old.least → new.priority ≡ old.priority → IsOnWay entry event slot old → IsOnWay entry event slot new
+pub still_on_way : (entry : Entry Cargo) (event : Event) (slot : ServerSlot) (old new : CallerState) → SameWork new.work old.work → new.least ≡ old.least → new.priority ≡ old.priority → IsOnWay entry event slot old → IsOnWay entry event slot new
 still_on_way entry event slot old new same least priority way =
     let recent = way.recent in
     record {

@@ -37,9 +37,9 @@ use Rattle.xa_caller.specs.xa_events.Conversation.{connections, opens_connection
 use Rattle.xa_caller.specs.xa_events.Views.{newer, ServerView, server_view, server_after}
 use Rattle.xa_caller.proofs.xa_events.Owns.{server_more}
 use Rattle.xa_caller.specs.xa_stamp.declared.home.Stamped.{Stamped}
-use Rattle.xa_restart.specs.Rule.{Standing as Restarts, IsRuleOf, IsLast, may_start_by}
+use Rattle.xa_restart.specs.Rule.{RestartState, IsRuleOf, IsLast, may_start_by}
 use Rattle.xa_restart.proofs.Recalling.{rule_is, no_earlier}
-use Rattle.xa_caller.specs.xa_worker.Work.{Standing, IsNext, theirs, noted, noted_here}
+use Rattle.xa_caller.specs.xa_worker.Work.{WorkState, IsNext, theirs, noted, noted_here}
 use Rattle.xa_caller.proofs.xa_worker.Noting.{theirs-more}
 use Rattle.xa_server.specs.declared.slot.ServerSlot.{ServerSlot}
 use Rattle.xa_server.specs.declared.slot.Last.{Last}
@@ -53,10 +53,10 @@ use Rattle.xa_caller.specs.xa_types.declared.stamp.Stamp.{Stamp}
 use Rattle.xa_server.specs.Changes.{MayStart, MayBeGivenUp, with_start}
 
 -- the work with one event more, and room for so many more
-abbrev pub more : Stamped → ℕ → Standing → Standing
+abbrev pub more : Stamped → ℕ → WorkState → WorkState
 more x room w = record w { stamp = x.stamp; own = w.own ++ x ∷ []; room = room }
 
-view-more : (server : ServerId) (w : Standing) (x : Stamped) (room : ℕ) → worker_of w.clients x.event ≡ w.id.0 → view_of server (more x room w) ≡ server_after server.0 x.event (view_of server w)
+view-more : (server : ServerId) (w : WorkState) (x : Stamped) (room : ℕ) → worker_of w.clients x.event ≡ w.id.0 → view_of server (more x room w) ≡ server_after server.0 x.event (view_of server w)
 view-more server w x room its = ap (server_view server.0) (theirs-more w x its) ∙ server_more server.0 x.event _
 
 -- ---- what the tables are with one event more
@@ -142,7 +142,7 @@ pub record IsServers (server : ServerId) (clients : ℕ) (e : Event) : Type 0 wh
   pub disconnects : (caller : ℕ) → closes_connection caller e ≡ None
 
 -- a slot stands with one event more of its server, where its tables are what that leaves
-pub stand-more : (server : ServerId) (restarts restarts' : Restarts) (w : Standing) (x : Stamped) (room : ℕ) → IsWorkerOf server restarts w
+pub stand-more : (server : ServerId) (restarts restarts' : RestartState) (w : WorkState) (x : Stamped) (room : ℕ) → IsWorkerOf server restarts w
     → restarts'.restart ≡ restarts.restart → restarts'.maxgen ≡ restarts.maxgen → restarts'.grace ≡ restarts.grace
     → IsServers server w.clients x.event
     → (made' : ℕ) (doing' : Doing) (last' : Last) (gone' shut' : Bool) → Reads (server_after server.0 x.event (view_of server w)) made' restarts'.starts doing' last' gone' shut' → made' ≤ x.stamp.0 → room_for doing' ≤ room
@@ -186,7 +186,7 @@ pub starts_floor : (clients server : ℕ) (past : List Event) → greatest 0 (st
 unfolding starts ticks
 starts_floor clients server past = starts_among clients server past
 
-module _ (slot : ServerSlot) (w : Standing) (tables : Tables slot w) where
+module _ (slot : ServerSlot) (w : WorkState) (tables : Tables slot w) where
   its_worker : w.clients + slot.server.0 ≡ w.id.0
   its_worker = tables.worker.number
 
@@ -242,7 +242,7 @@ of_failed clients b = record { its = refl; opens = λ caller. refl; closes = λ 
 of_take : (clients : ℕ) (t : Taken) → IsServers t.server clients (Take t)
 of_take clients t = record { its = refl; opens = λ caller. refl; closes = λ caller. refl; connects = λ caller. refl; disconnects = λ caller. refl }
 
-module _ (slot : ServerSlot) (w : Standing) (stands : Stands slot w) where
+module _ (slot : ServerSlot) (w : WorkState) (stands : Stands slot w) where
   -- nothing is in hand where the server is off
   off_hand : (d : Doing) → slot.doing ≡ d → d ≡ Off → slot.hand ≡ None
   off_hand d is off = subst (λ (e : Doing). InHand e slot.hand) (is ∙ off) stands.hand
@@ -330,7 +330,7 @@ room_after (BadForward version) g = omega arith
 room_after Died g = omega arith
 room_after Starved g = omega arith
 
-module _ (slot : ServerSlot) (w : Standing) (tables : Tables slot w) where
+module _ (slot : ServerSlot) (w : WorkState) (tables : Tables slot w) where
   pub may_ended_by : (e : Ended) → e.server ≡ slot.server → slot.doing ≡ Busy e.generation e.request → may_end_so w.setup e.outcome ≡ true → ((version : ℕ) → version_of e.outcome ≡ Some version → least_version w.setup w.clients w.id.0 (theirs w) ≤ version) → IsNext w (End e)
   unfolding doing
   may_ended_by e its busy may recent = record {
@@ -464,7 +464,7 @@ bad_ends setup false = (refl, refl)
 abbrev pub end_of : ServerSlot → Entry Cargo → Outcome → Ended
 end_of slot entry outcome = record { request = entry.request; server = slot.server; generation = life_in slot.doing; outcome = outcome }
 
-module _ (slot : ServerSlot) (w : Standing) (stands : Stands slot w) where
+module _ (slot : ServerSlot) (w : WorkState) (stands : Stands slot w) where
   pub finished_stands : (entry : Entry Cargo) (outcome : Outcome) (stamp : Stamp) → stamp.0 ≡ w.stamp.0 + 1
       → Stands (record slot { doing = after_end outcome (life_in slot.doing); hand = None; last = last_by outcome }) (noted_here (record { stamp = stamp; event = End (end_of slot entry outcome) }) (with_room 3 w))
   finished_stands entry outcome stamp next = record {

@@ -18,7 +18,7 @@ use Rattle.xa_caller.specs.xa_cell.Views.{nth, at, opening, fill}
 use Rattle.xa_caller.specs.xa_cell.Changes.{looked, took}
 use Rattle.xa_caller.specs.xa_cell.Known.{known}
 use Rattle.xa_caller.specs.declared.cargo.Filling.{Filling}
-use Rattle.xa_caller.specs.Caller.{Standing as Caller}
+use Rattle.xa_caller.specs.Caller.{CallerState}
 use Rattle.xa_caller.specs.Changes.{Answers}
 use Rattle.xa_caller.proofs.xa_cell.Growing.{looked_keeps}
 use Rattle.xa_server.specs.Growing.{Grows}
@@ -34,10 +34,10 @@ nth-set (x ∷ ps) zero p q asked = refl
 nth-set (x ∷ ps) (suc k) p q asked = nth-set ps k p q asked
 
 -- the answer that the caller is told
-abbrev told_by : Option Kind → Caller → RequestId → Reply → Replied
+abbrev told_by : Option Kind → CallerState → RequestId → Reply → Replied
 told_by expect c request reply = record { by = c.work.id; op = c.op; request = request; answer = answer_to expect reply }
 
-pub took_one : (expect : Option Kind) (stamp : Stamp) (new old : Caller) (answers : Answers expect stamp new old) → TookFor (known new.seat) stamp (told_by expect old answers.sent.request answers.reply)
+pub took_one : (expect : Option Kind) (stamp : Stamp) (new old : CallerState) (answers : Answers expect stamp new old) → TookFor (known new.seat) stamp (told_by expect old answers.sent.request answers.reply)
 took_one expect stamp new old answers =
     let k : ℕ = answers.sent.place.cell in
     let v : View Filling = known old.seat in
@@ -62,15 +62,15 @@ took_one expect stamp new old answers =
       told = refl;
     }
 
-pub has_taken : (expect : Option Kind) (stamp : Stamp) (new old : Caller) → Answers expect stamp new old → (a : Replied) × Contains new.work.own (record { stamp = stamp; event = Answer a }) × TookFor (known new.seat) stamp a
+pub has_taken : (expect : Option Kind) (stamp : Stamp) (new old : CallerState) → Answers expect stamp new old → (a : Replied) × Contains new.work.own (record { stamp = stamp; event = Answer a }) × TookFor (known new.seat) stamp a
 has_taken expect stamp new old answers =
     let a : Replied = told_by expect old answers.sent.request answers.reply in
     let x : Stamped = record { stamp = stamp; event = Answer a } in
-    let own : new.work.own ≡ old.work.own ++ x ∷ [] = ap (λ (s : Caller). s.work.own) answers.noted.made in
+    let own : new.work.own ≡ old.work.own ++ x ∷ [] = ap (λ (s : CallerState). s.work.own) answers.noted.made in
     (a, subst (λ (l : List Stamped). Contains l x) (sym own) (Contains-push old.work.own x), took_one expect stamp new old answers)
 
 -- the answers before it too
-pub all_answers : (expect : Option Kind) (stamp : Stamp) (new old : Caller) → Answers expect stamp new old → AnswersTaken (known old.seat) old.work.own → AnswersTaken (known new.seat) new.work.own
+pub all_answers : (expect : Option Kind) (stamp : Stamp) (new old : CallerState) → Answers expect stamp new old → AnswersTaken (known old.seat) old.work.own → AnswersTaken (known new.seat) new.work.own
 all_answers expect stamp new old answers before =
     let k : ℕ = answers.sent.place.cell in
     let v : View Filling = known old.seat in
@@ -79,6 +79,6 @@ all_answers expect stamp new old answers before =
     let grows : Grows v w = both_grow v seen w (keeps_grows v seen (looked_keeps k 0 v)) (takes_grows k answers.filling seen w (took_is_more k answers.filling seen w answers.took)) in
     let a : Replied = record { by = old.work.id; op = old.op; request = answers.sent.request; answer = answer_to expect answers.reply } in
     let x : Stamped = record { stamp = stamp; event = Answer a } in
-    let own : new.work.own ≡ old.work.own ++ x ∷ [] = ap (λ (s : Caller). s.work.own) answers.noted.made in
+    let own : new.work.own ≡ old.work.own ++ x ∷ [] = ap (λ (s : CallerState). s.work.own) answers.noted.made in
     All-same (λ (y : Stamped). WasTaken w y.stamp y.event) new.work.own (old.work.own ++ x ∷ []) own
     (All-push (λ (y : Stamped). WasTaken w y.stamp y.event) old.work.own x (all_taken old.work.own v w grows before) (took_one expect stamp new old answers))

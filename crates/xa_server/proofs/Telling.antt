@@ -34,7 +34,7 @@ use Rattle.xa_caller.specs.xa_cell.Known.{named}
 use Rattle.xa_caller.specs.xa_cell.Calls.{Settles as SettlesCell}
 use Rattle.xa_caller.specs.Drafts.{Cargo}
 use Rattle.xa_caller.specs.declared.cargo.Filling.{Filling}
-use Rattle.xa_caller.specs.xa_worker.Work.{Standing}
+use Rattle.xa_caller.specs.xa_worker.Work.{WorkState}
 use Rattle.xa_server.specs.declared.slot.ServerSlot.{ServerSlot}
 use Rattle.xa_server.specs.declared.closing.Closing.{Closing}
 use Rattle.xa_server.specs.declared.closing.Given.{Given}
@@ -100,11 +100,11 @@ same_entry a b hand x y = ap (entry_in a) (sym x ∙ y)
     entry_in default (Some entry) = entry
     entry_in default None = default
 
-pub backed : (outcome : Outcome) (stamp : Stamp) (closing : Closing) (after before : ServerSlot) (new old : Standing) → Ends outcome stamp after before new old → Closes (reply_of (EndedBy outcome)) stamp before.hand closing → NamesIts before.hand → IsBacked new.own closing
+pub backed : (outcome : Outcome) (stamp : Stamp) (closing : Closing) (after before : ServerSlot) (new old : WorkState) → Ends outcome stamp after before new old → Closes (reply_of (EndedBy outcome)) stamp before.hand closing → NamesIts before.hand → IsBacked new.own closing
 backed outcome stamp closing after before new old ends closes names =
     let e : Ended = end_of before ends.entry outcome in
     let x : Stamped = record { stamp = stamp; event = End e } in
-    let own : new.own ≡ old.own ++ x ∷ [] = ap (λ (w : Standing). w.own) ends.noted.made in
+    let own : new.own ≡ old.own ++ x ∷ [] = ap (λ (w : WorkState). w.own) ends.noted.made in
     let same : ends.entry ≡ closes.entry = same_entry ends.entry closes.entry before.hand ends.in_hand closes.in_hand in
     subst (IsBacked new.own) (sym closes.is) (
       x,
@@ -145,33 +145,33 @@ newest old x new is = ap (last_stamp no_stamp) is ∙ last_stamp-push no_stamp o
 closed_at : (answer : Answer) (stamp : Stamp) (hand : Option (Entry Cargo)) (closing : Closing) → Closes answer stamp hand closing → closing.stamp.0 ≡ stamp.0
 closed_at answer stamp hand closing closes = ap (λ (c : Closing). c.stamp.0) closes.is
 
-pub finish_backed : (outcome : Outcome) (closing : Closing) (after before : ServerSlot) (new old : Standing) → Finishes outcome closing after before new old → NamesIts before.hand → IsBacked new.own closing × (closing.stamp.0 ≤ last_stamp no_stamp new.own)
+pub finish_backed : (outcome : Outcome) (closing : Closing) (after before : ServerSlot) (new old : WorkState) → Finishes outcome closing after before new old → NamesIts before.hand → IsBacked new.own closing × (closing.stamp.0 ≤ last_stamp no_stamp new.own)
 finish_backed outcome closing after before new old f names =
     let at = closed_at (reply_of (EndedBy outcome)) f.stamp before.hand closing f.closes in
-    let now = newest old.own (record { stamp = f.stamp; event = _ }) new.own (ap (λ (w : Standing). w.own) f.ends.noted.made) in
+    let now = newest old.own (record { stamp = f.stamp; event = _ }) new.own (ap (λ (w : WorkState). w.own) f.ends.noted.made) in
     (backed outcome f.stamp closing f.ended before new (with_room 3 old) f.ends f.closes names, omega (arith, at, now))
 
-dies_busy : (cause : StopCause) (closing : Closing) (after before : ServerSlot) (new old : Standing) → DiesBusy cause closing after before new old → NamesIts before.hand → IsBacked new.own closing × (closing.stamp.0 ≤ last_stamp no_stamp new.own)
+dies_busy : (cause : StopCause) (closing : Closing) (after before : ServerSlot) (new old : WorkState) → DiesBusy cause closing after before new old → NamesIts before.hand → IsBacked new.own closing × (closing.stamp.0 ≤ last_stamp no_stamp new.own)
 dies_busy cause closing after before new old d names =
     let at = closed_at (reply_of (EndedBy (outcome_of cause))) d.stamp before.hand closing d.closes in
-    let between = ap (λ (w : Standing). w.stamp.0) d.ends.noted.made in
+    let between = ap (λ (w : WorkState). w.stamp.0) d.ends.noted.made in
     let next = d.stops.noted.next in
-    let own = ap (λ (w : Standing). w.own) d.stops.noted.made in
+    let own = ap (λ (w : WorkState). w.own) d.stops.noted.made in
     let now = newest d.between.own (record { stamp = d.stop; event = _ }) new.own own in
     let ended = backed (outcome_of cause) d.stamp closing d.ended before d.between old d.ends d.closes names in
     (subst (λ (l : List Stamped). IsBacked l closing) (sym own) (closings_stay d.between.own _ closing ended), omega (arith, at, between, next, now))
 
-dies_idle : (cause : StopCause) (closing : Closing) (after before : ServerSlot) (new old : Standing) → DiesIdle cause closing after before new old → IsBacked new.own closing × (closing.stamp.0 ≤ last_stamp no_stamp new.own)
+dies_idle : (cause : StopCause) (closing : Closing) (after before : ServerSlot) (new old : WorkState) → DiesIdle cause closing after before new old → IsBacked new.own closing × (closing.stamp.0 ≤ last_stamp no_stamp new.own)
 dies_idle cause closing after before new old d =
     let at = ap (λ (s : Stamp). s.0) d.stamped in
-    let now = newest old.own (record { stamp = d.stop; event = _ }) new.own (ap (λ (w : Standing). w.own) d.stops.noted.made) in
+    let now = newest old.own (record { stamp = d.stop; event = _ }) new.own (ap (λ (w : WorkState). w.own) d.stops.noted.made) in
     (subst (λ (t : Option (Ticket Filling)). Backs new.own t closing.answer closing.stamp) (sym d.nobody) tt, omega (arith, at, now))
 
-dies_from : (doing : Doing) (cause : StopCause) (closing : Closing) (after before : ServerSlot) (new old : Standing) → DiesFrom doing cause closing after before new old → NamesIts before.hand → IsBacked new.own closing × (closing.stamp.0 ≤ last_stamp no_stamp new.own)
+dies_from : (doing : Doing) (cause : StopCause) (closing : Closing) (after before : ServerSlot) (new old : WorkState) → DiesFrom doing cause closing after before new old → NamesIts before.hand → IsBacked new.own closing × (closing.stamp.0 ≤ last_stamp no_stamp new.own)
 dies_from (Busy generation request) cause closing after before new old d names = dies_busy cause closing after before new old d names
 dies_from _ cause closing after before new old d names = dies_idle cause closing after before new old d
 
-pub death_backed : (cause : StopCause) (closing : Closing) (after before : ServerSlot) (new old : Standing) → Dies cause closing after before new old → NamesIts before.hand → IsBacked new.own closing × (closing.stamp.0 ≤ last_stamp no_stamp new.own)
+pub death_backed : (cause : StopCause) (closing : Closing) (after before : ServerSlot) (new old : WorkState) → Dies cause closing after before new old → NamesIts before.hand → IsBacked new.own closing × (closing.stamp.0 ≤ last_stamp no_stamp new.own)
 death_backed cause closing after before new old d names = dies_from before.doing cause closing after before new old d names
 
 settles_sweep : (x : Swept) (request : RequestId) → request ≡ x.request → IsSomeAnd (settlement_in request (Sweep x)) (λ (how : Settlement). reply_of SweptAway ≡ reply_of how)

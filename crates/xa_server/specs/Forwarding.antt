@@ -23,7 +23,7 @@ use Rattle.xa_caller.specs.xa_queue.declared.entry.Entry.{Entry}
 use Rattle.xa_caller.specs.xa_worker.declared.work.Halt.{Halt}
 use Rattle.xa_caller.specs.declared.outcomes.Aimed.{Aimed}
 use Rattle.xa_caller.specs.declared.outcomes.Aimed.TheVariants as aims
-use Rattle.xa_caller.specs.Caller.{Standing as Caller}
+use Rattle.xa_caller.specs.Caller.{CallerState}
 use Rattle.xa_caller.specs.Drafts.{Cargo, entry_behind}
 use Rattle.xa_caller.specs.Serving.{raised, forwarded_off}
 use Rattle.xa_server.specs.declared.closing.Closing.{Closing}
@@ -73,7 +73,7 @@ pub record GoesBy (version : ℕ) (row : Row) (asked : Option (Bool × ℤ)) (ho
   pub forwards : event ≡ Forward (forwarded_by slot was.request hop version row asked payload)
 
 -- the request in hand is out to go on by that row, once more than before, with the priority that was set for it; nothing is noted
-pub record Passes (version : ℕ) (row : Row) (payload : Data) (entry : Entry Cargo) (event : Event) (slot' slot : ServerSlot) (new old : Caller) : Type 0 where
+pub record Passes (version : ℕ) (row : Row) (payload : Data) (entry : Entry Cargo) (event : Event) (slot' slot : ServerSlot) (new old : CallerState) : Type 0 where
   pub held : Entry Cargo
   pub in_hand : slot.hand ≡ Some held
   pub goes : GoesBy version row old.priority (held.cargo.invocation.hop + 1) payload held entry event slot
@@ -81,12 +81,12 @@ pub record Passes (version : ℕ) (row : Row) (payload : Data) (entry : Entry Ca
   pub same : new ≡ old
 
 -- the request in hand ended as a forward that failed, and its caller is to be told; the worker read that version of the board, if it isn't 0
-pub record Fails (version : ℕ) (closing : Closing) (slot' slot : ServerSlot) (new old : Caller) : Type 0 where
+pub record Fails (version : ℕ) (closing : Closing) (slot' slot : ServerSlot) (new old : CallerState) : Type 0 where
   pub finishes : Finishes (BadForward version) closing slot' slot new.work old.work
   pub rest : new ≡ record old { work = new.work; least = raised (version_of (BadForward version)) old.least }
 
 -- what a forward comes to, by the way that it goes
-abbrev pub ForwardsAs : ℕ → Data → Result Row ℕ → Forwards → ServerSlot → ServerSlot → Caller → Caller → Type 0
+abbrev pub ForwardsAs : ℕ → Data → Result Row ℕ → Forwards → ServerSlot → ServerSlot → CallerState → CallerState → Type 0
 ForwardsAs version payload (Ok row) (On entry event) slot' slot new old = Passes version row payload entry event slot' slot new old
 ForwardsAs version payload (Err named) (Failed closing) slot' slot new old = Fails named closing slot' slot new old
 ForwardsAs version payload way forwards slot' slot new old = ⊥
@@ -99,7 +99,7 @@ hop_in None = 0
 -- ---- on its way
 
 -- the slot's request is out, as that entry, and that event may be noted of it
-pub record IsOnWay (entry : Entry Cargo) (event : Event) (slot : ServerSlot) (c : Caller) : Type 0 where
+pub record IsOnWay (entry : Entry Cargo) (event : Event) (slot : ServerSlot) (c : CallerState) : Type 0 where
   pub tables : Tables slot c.work
   pub busy : slot.doing ≡ Busy (life_in slot.doing) entry.request
   pub out : slot.hand ≡ None
@@ -114,7 +114,7 @@ pub record IsOnWay (entry : Entry Cargo) (event : Event) (slot : ServerSlot) (c 
   pub priority : f.priority ≡ priority_by c.work.setup f.service c.priority
 
 -- what holds behind a forward: the request is on its way, or else the slot stands
-abbrev pub LeftBy : Result Forwards Halt → ServerSlot → Caller → Type 0
+abbrev pub LeftBy : Result Forwards Halt → ServerSlot → CallerState → Type 0
 LeftBy (Ok (On entry event)) slot c = IsOnWay entry event slot c
 LeftBy (Ok (Failed closing)) slot c = Stands slot c.work
 LeftBy (Err halt) slot c = Stands slot c.work
@@ -126,12 +126,12 @@ AimsOn version asked entry rows attempt slot (aims.Past back) = (slice_get rows 
 AimsOn version asked entry rows attempt slot (aims.NoMemory back) = back ≡ entry
 
 -- it is on its way still, by the event that was made anew, or else by the one before
-abbrev pub StaysOnWay : Event → ServerSlot → Caller → Aimed → Type 0
+abbrev pub StaysOnWay : Event → ServerSlot → CallerState → Aimed → Type 0
 StaysOnWay event slot c (aims.At aimed anew) = IsOnWay aimed anew slot c
 StaysOnWay event slot c (aims.Past back) = IsOnWay back event slot c
 StaysOnWay event slot c (aims.NoMemory back) = IsOnWay back event slot c
 
 -- it went on, by an event with that stamp
-pub record GoesOn (stamp : Stamp) (version : ℕ) (event : Event) (slot' slot : ServerSlot) (new old : Caller) : Type 0 where
+pub record GoesOn (stamp : Stamp) (version : ℕ) (event : Event) (slot' slot : ServerSlot) (new old : CallerState) : Type 0 where
   pub left : slot' ≡ record slot { doing = Idle (life_in slot.doing); last = lasts.Nothing }
   pub noted : new ≡ forwarded_off stamp version event old

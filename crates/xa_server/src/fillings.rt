@@ -28,7 +28,7 @@ ghost use Rattle.xa_caller.specs.xa_cell.Known.{known, named};
 ghost use Rattle.xa_caller.specs.xa_cell.Law.{Answered};
 ghost use Rattle.xa_caller.specs.xa_cell.Views.{at, fill};
 ghost use Rattle.xa_caller.specs.declared.cargo.Filling.{Filling};
-ghost use Rattle.xa_caller.specs.Caller.{Standing as Caller};
+ghost use Rattle.xa_caller.specs.Caller.{CallerState};
 ghost use Rattle.xa_caller.specs.Changes.{Answers};
 ghost use Rattle.xa_server.specs.Growing.{Grows};
 ghost use Rattle.xa_server.specs.Told.{FilledByEnds};
@@ -70,8 +70,8 @@ pub fn ends_stand()
 
 /// Each answer that a caller is told is one that its seat took, and so all of its answers are where all before were.
 pub fn answers_were_taken()
-    ensures all { (expect : Option Kind) (stamp : Stamp) (new old : Caller) → Answers expect stamp new old → AnswersTaken (known old.seat) old.work.own → AnswersTaken (known new.seat) new.work.own }
-    ensures one { (expect : Option Kind) (stamp : Stamp) (new old : Caller) → Answers expect stamp new old → (a : Replied) × Contains new.work.own (record { stamp = stamp; event = Answer a }) × TookFor (known new.seat) stamp a }
+    ensures all { (expect : Option Kind) (stamp : Stamp) (new old : CallerState) → Answers expect stamp new old → AnswersTaken (known old.seat) old.work.own → AnswersTaken (known new.seat) new.work.own }
+    ensures one { (expect : Option Kind) (stamp : Stamp) (new old : CallerState) → Answers expect stamp new old → (a : Replied) × Contains new.work.own (record { stamp = stamp; event = Answer a }) × TookFor (known new.seat) stamp a }
 {}
 
 /// Once the cells are closed, each answer that a worker noted tells how its request ended: the end, or the sweep, stands at

@@ -11,7 +11,7 @@ ghost use Rattle.xa_caller.specs.xa_queue.declared.entry.Entry.{Entry as EntryOf
 ghost use Rattle.xa_caller.specs.Drafts.{Cargo as CargoOf, entry_behind};
 ghost use Rattle.xa_caller.specs.Caller.{AreRowsOf};
 ghost use Rattle.xa_caller.specs.Serving.{IsForwardBy};
-ghost use Rattle.xa_caller.specs.xa_worker.Work.{Standing};
+ghost use Rattle.xa_caller.specs.xa_worker.Work.{WorkState};
 ghost use Rattle.xa_server.specs.Doings.{IsBusy, InHand, life_in};
 ghost use Rattle.xa_server.specs.Forwarding.{way_of, hop_in, forwarded_by, Fails, ForwardsAs, LeftBy, IsOnWay, AimsOn, StaysOnWay, GoesOn};
 ghost use Rattle.xa_server.specs.Noting.{HaltsWith};
@@ -232,7 +232,7 @@ impl ServerSlot {
         requires out { (self.old.doing ≡ doings.Busy (life_in self.old.doing) entry.request) × (self.old.hand ≡ None) }
         ensures hand { self.new ≡ record self.old { hand = Some entry } }
         ensures in_hand { InHand self.new.doing self.new.hand }
-        ensures stands { (w : Standing) → Tables self.old w → Stands self.new w }
+        ensures stands { (w : WorkState) → Tables self.old w → Stands self.new w }
     {
         put_in(&mut self.hand, entry);
     }

@@ -1,5 +1,5 @@
 //! What holds of slots and closings.
-ghost use Rattle.xa_caller.specs.xa_worker.Work.{Standing};
+ghost use Rattle.xa_caller.specs.xa_worker.Work.{WorkState};
 ghost use Rattle.xa_server.specs.declared.slot.ServerSlot.{ServerSlot};
 ghost use Rattle.xa_server.specs.Slot.{Stands, SameWork};
 ghost use Rattle.std.specs.Prelude.{◌≡◌, ◌≤◌, List, [], ◌++◌, Some, IsSome, IsSomeAnd};
@@ -9,13 +9,13 @@ ghost use Rattle.xa_caller.specs.xa_types.declared.ids.QueueId.{QueueId};
 ghost use Rattle.xa_caller.specs.xa_types.declared.ids.ServerId.{ServerId};
 ghost use Rattle.xa_caller.specs.xa_types.Setup.{numbered};
 ghost use Rattle.xa_caller.specs.xa_events.State.{caller_of};
-ghost use Rattle.xa_restart.specs.Rule.{Standing as Restarts, IsRuleOf};
+ghost use Rattle.xa_restart.specs.Rule.{RestartState, IsRuleOf};
 ghost use Rattle.xa_caller.specs.xa_events.declared.event.Event.{Event};
 ghost use Rattle.xa_caller.specs.xa_events.declared.event.Event.TheVariants.{Sweep};
 ghost use Rattle.xa_caller.specs.xa_events.declared.event.Outcome.{Outcome};
 ghost use Rattle.xa_caller.specs.xa_events.declared.event.StopCause.{StopCause};
 ghost use Rattle.xa_caller.specs.xa_queue.declared.entry.Entry.{Entry};
-ghost use Rattle.xa_caller.specs.Caller.{Standing as Caller};
+ghost use Rattle.xa_caller.specs.Caller.{CallerState};
 ghost use Rattle.xa_caller.specs.Drafts.{Cargo};
 ghost use Rattle.xa_caller.specs.xa_events.Answers.{reply_of};
 ghost use Rattle.xa_caller.specs.xa_events.Request.Settlement.{EndedBy, SweptAway};
@@ -33,32 +33,32 @@ ghost use Rattle.xa_server.specs.Told.{GivenAs, FilledByEnds, HasStamp, IsBacked
 /// The slot of a server that was never started stands, where its worker has noted nothing and the server is configured with
 /// its rule.
 pub fn new_slots_stand()
-    ensures { (server : ServerId) (restarts : Restarts) (w : Standing) → caller_of w.clients server.0 ≡ w.id.0 → IsSomeAnd (numbered server.0 w.setup.servers) (λ configured. IsRuleOf configured restarts.restart restarts.maxgen restarts.grace)
+    ensures { (server : ServerId) (restarts : RestartState) (w : WorkState) → caller_of w.clients server.0 ≡ w.id.0 → IsSomeAnd (numbered server.0 w.setup.servers) (λ configured. IsRuleOf configured restarts.restart restarts.maxgen restarts.grace)
         → restarts.starts ≡ [] → w.own ≡ [] → Stands (new_slot server restarts) w }
 {}
 
 /// A slot that stands on its worker's events does so also where the worker saw a stamp, made room, or noted an event of the
 /// domain.
 pub fn still_stands()
-    ensures { (slot : ServerSlot) (old new : Standing) → SameWork new old → Stands slot old → Stands slot new }
+    ensures { (slot : ServerSlot) (old new : WorkState) → SameWork new old → Stands slot old → Stands slot new }
 {}
 
 /// So a request that is out stays on its way, where what its caller set and read stays too.
 pub fn still_on_way()
-    ensures { (entry : Entry Cargo) (event : Event) (slot : ServerSlot) (old new : Caller) → SameWork new.work old.work → new.least ≡ old.least → new.priority ≡ old.priority → IsOnWay entry event slot old → IsOnWay entry event slot new }
+    ensures { (entry : Entry Cargo) (event : Event) (slot : ServerSlot) (old new : CallerState) → SameWork new.work old.work → new.least ≡ old.least → new.priority ≡ old.priority → IsOnWay entry event slot old → IsOnWay entry event slot new }
 {}
 
 /// What a slot closes has its end among what its worker noted, with the stamp that the closing carries.
 pub fn closings_are_backed()
-    ensures { (outcome : Outcome) (stamp : Stamp) (closing : Closing) (after before : ServerSlot) (new old : Standing) → Ends outcome stamp after before new old
+    ensures { (outcome : Outcome) (stamp : Stamp) (closing : Closing) (after before : ServerSlot) (new old : WorkState) → Ends outcome stamp after before new old
         → Closes (reply_of (EndedBy outcome)) stamp before.hand closing → NamesIts before.hand → IsBacked new.own closing }
 {}
 
 /// So it is with what the return or the death of a life closes, and its stamp is no greater than that of the worker's last
 /// event.
 pub fn answers_are_backed()
-    ensures finishes { (outcome : Outcome) (closing : Closing) (after before : ServerSlot) (new old : Standing) → Finishes outcome closing after before new old → NamesIts before.hand → IsBacked new.own closing × (closing.stamp.0 ≤ last_stamp no_stamp new.own) }
-    ensures dies { (cause : StopCause) (closing : Closing) (after before : ServerSlot) (new old : Standing) → Dies cause closing after before new old → NamesIts before.hand → IsBacked new.own closing × (closing.stamp.0 ≤ last_stamp no_stamp new.own) }
+    ensures finishes { (outcome : Outcome) (closing : Closing) (after before : ServerSlot) (new old : WorkState) → Finishes outcome closing after before new old → NamesIts before.hand → IsBacked new.own closing × (closing.stamp.0 ≤ last_stamp no_stamp new.own) }
+    ensures dies { (cause : StopCause) (closing : Closing) (after before : ServerSlot) (new old : WorkState) → Dies cause closing after before new old → NamesIts before.hand → IsBacked new.own closing × (closing.stamp.0 ≤ last_stamp no_stamp new.own) }
 {}
 
 /// What is closed of a request that was swept has its sweep among entries where that stands with its stamp.

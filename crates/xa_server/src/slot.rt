@@ -1,5 +1,5 @@
 // The slot of a server.
-ghost use Rattle.std.specs.Prelude.{◌≡◌, ◌+◌, ◌≤◌, ◌<◌, ◌^◌, ◌∷◌, [], Some, None, IfOk, IfErr, OnErr, IsSome, MatchOption, option_map, if◌then◌else◌};
+ghost use Rattle.std.specs.Prelude.{◌≡◌, ◌+◌, ◌≤◌, ◌<◌, ◌^◌, ◌∷◌, [], Some, None, IfOk, IfErr, OnErr, IsSome, MatchOption, if◌then◌else◌};
 ghost use Rattle.xa_restart.specs.Rule.{may_start_by, IsLast};
 ghost use Rattle.xa_caller.specs.xa_events.declared.event.Doing.TheVariants as doings;
 ghost use Rattle.xa_caller.specs.xa_worker.Work.{noted, theirs};
@@ -24,7 +24,7 @@ use std::snapshot::Snapshot;
 use xa_caller::events::{Doing, Ended, Event, Outcome, Started, StopCause, Stopped};
 use xa_caller::held::Invocation;
 use xa_caller::queue::Entry;
-use xa_caller::types::{Answer, Data, Fault, Generation, RequestId, Rval, ServerId, Stamp, Worn};
+use xa_caller::types::{Answer, Data, Fault, Generation, Rval, ServerId, Stamp, Worn};
 use xa_caller::work::Halt;
 use xa_caller::{Caller, Cargo};
 use xa_restart::Lives;
@@ -182,16 +182,6 @@ impl ServerSlot {
         ensures { result ≡ life_in self.now.doing }
     {
         life_in(self.doing)
-    }
-
-    /// The request that it has in hand, if it has one.
-    pub fn request(&self) -> Option<RequestId>
-        ensures { result ≡ option_map (λ entry. entry.request) self.now.hand }
-    {
-        match &self.hand {
-            Some(entry) => Some(entry.request),
-            None => None,
-        }
     }
 
     /// Whether it may be started at that tick, which is no earlier than its last start.

@@ -1,6 +1,6 @@
 -- A life of a server ends.
-use Rattle.std.proofs.Common.{◌≡◌, ◌<◌, ℕ, ◌+◌, ◌==◌, ◌&&◌, true, false, List, [], ◌∷◌, ◌++◌, map, length, Option, Some, None, inl, inr, refl, sym, ◌∙◌, ap, subst, append-nil, arith, eq-eqb}
-use Rattle.std.specs.Prelude.{IfSome, ⊤}
+use Rattle.std.proofs.Common.{◌≡◌, ◌<◌, ℕ, ◌+◌, ◌==◌, ◌&&◌, true, false, List, [], ◌∷◌, ◌++◌, map, length, Option, Some, inl, inr, refl, sym, ◌∙◌, ap, subst, append-nil, arith, eq-eqb}
+use Rattle.std.specs.Prelude.{⊤}
 use Rattle.std.specs.List.{All}
 use Rattle.std.proofs.lemmas.List.{map_push, append_assoc}
 use Rattle.std.proofs.lemmas.List.Elements.{All-nil, All-cons, All-push}
@@ -23,7 +23,7 @@ use Rattle.xa_desk.specs.xa_events.Server.{after_end, is_shutdown}
 use Rattle.xa_desk.specs.xa_events.Homes.{worker_of}
 use Rattle.xa_desk.specs.xa_events.Cases.{IsShut}
 use Rattle.xa_desk.specs.xa_stamp.declared.home.Stamped.{Stamped}
-use Rattle.xa_desk.specs.xa_worker.Work.{Standing as Working, theirs}
+use Rattle.xa_desk.specs.xa_worker.Work.{WorkState, theirs}
 use Rattle.xa_desk.proofs.xa_worker.Noting.{theirs-more}
 use Rattle.xa_desk.specs.xa_pipe.declared.turn.Turn.TheVariants.{AwaitsInvoke, Exited}
 use Rattle.xa_desk.specs.xa_pipe.declared.turn.Turn.{Turn}
@@ -31,7 +31,7 @@ use Rattle.xa_desk.specs.xa_pipe.declared.turn.Written.{Written}
 use Rattle.xa_desk.specs.xa_pipe.declared.turn.Written.TheVariants as writes
 use Rattle.xa_desk.specs.xa_pipe.Frames.{is_of_life, is_take_in}
 use Rattle.xa_desk.specs.xa_pipe.Life.{stops_life, lost_by, may_end}
-use Rattle.xa_desk.specs.xa_pipe.Standing.{Standing as Life, Ending, IsOver}
+use Rattle.xa_desk.specs.xa_pipe.Standing.{LifeState, Ending, IsOver}
 use Rattle.xa_desk.specs.xa_pipe.Following.{Settled, HasStopped}
 use Rattle.xa_desk.proofs.xa_pipe.Followed.{stops}
 use Rattle.xa_desk.specs.xa_server.declared.closing.Closing.{Closing}
@@ -51,11 +51,11 @@ use Rattle.xa_server_worker.specs.declared.working.ServerWorker.{ServerWorker}
 use Rattle.xa_desk.specs.Halting.{IsStopAt}
 use Rattle.xa_server_worker.specs.Lives.{lives_in, IsHanded, TookEach, HandsOn, IsCut}
 use Rattle.xa_server_worker.specs.Working.{cut_in}
-use Rattle.xa_server_worker.specs.Steps.{Steps, Serves, stop_by}
+use Rattle.xa_server_worker.specs.Steps.{Steps, Serves}
 use Rattle.xa_server_worker.specs.Standing.{SettlesBy, IsLast, IsAtWork, IsOff, HasEnded}
 use Rattle.xa_server_worker.specs.Behind.{is_by_exit, TellsLast, ToldBefore}
 use Rattle.xa_server_worker.proofs.Behind.{still_behind, more_behind, told_last}
-use Rattle.xa_server_worker.proofs.Stepping.{still_steps, noted_steps}
+use Rattle.xa_server_worker.proofs.Stepping.{stop_by, still_steps, noted_steps}
 use Rattle.xa_server_worker.proofs.Keeping.{OfLife, lives_same, lives_on, skip_count, handed_led}
 use Rattle.xa_server_worker.proofs.Lasting.{number_of, at_kept, started_on, failed_on, ends_shut, ends_lived, ends_work, lives_hand, none_cut, none_off, halts}
 use Rattle.xa_desk.proofs.xa_pipe.Followed.{settled_led}
@@ -111,10 +111,10 @@ module _ {L T : Type 0} {d : Domain} {shows : T → StarterShows} (w : ServerWor
   abbrev own : List Event
   own = theirs w.desk.caller.work
 
-  abbrev old : Working
+  abbrev old : WorkState
   old = w.desk.caller.work
 
-  abbrev new : Working
+  abbrev new : WorkState
   new = desk'.caller.work
 
   server_of_life : slot.server.0 ≡ over.life.server.0
@@ -148,13 +148,13 @@ module _ {L T : Type 0} {d : Domain} {shows : T → StarterShows} (w : ServerWor
       let x : StopEvent = record { server = slot.server; generation = life_in slot.doing; cause = cause } in
       let next = stopped.noted.next in
       stops_work [] (Stop x) x (record { stamp = stamp; event = Stop x } ∷ []) (noted_steps stamp (Stop x) old.room leads (number_of at.serving) stopped.noted) (All-nil (OfLife slot.made)) refl does why (settled_still over own settled) handed_still
-      (ap (λ (v : Working). v.own) stopped.noted.made) (All-cons (λ (y : Stamped). old.stamp.0 < y.stamp.0) (record { stamp = stamp; event = Stop x }) [] (omega (arith, next)) (All-nil (λ (y : Stamped). old.stamp.0 < y.stamp.0))) settled.alive saw told
+      (ap (λ (v : WorkState). v.own) stopped.noted.made) (All-cons (λ (y : Stamped). old.stamp.0 < y.stamp.0) (record { stamp = stamp; event = Stop x }) [] (omega (arith, next)) (All-nil (λ (y : Stamped). old.stamp.0 < y.stamp.0))) settled.alive saw told
       (ap (λ (s : ServerSlot). s.server) stopped.left) (ap (λ (s : ServerSlot). s.made) stopped.left) (ap (λ (s : ServerSlot). s.gone) stopped.left)
 
   -- it may end so, as nothing else was noted
   pub stop_told : (cause : StopCause) (stamp : Stamp) → is_by_exit cause ≡ false → Stops cause stamp slot' slot new old → ToldBefore desk'
   stop_told cause stamp plain stopped =
-      more_behind w.desk desk' ⊥ ⊥ (record { stamp = stamp; event = Stop (record { server = slot.server; generation = life_in slot.doing; cause = cause }) } ∷ []) (ap (λ (v : Working). v.own) stopped.noted.made) seat plain at.told.0
+      more_behind w.desk desk' ⊥ ⊥ (record { stamp = stamp; event = Stop (record { server = slot.server; generation = life_in slot.doing; cause = cause }) } ∷ []) (ap (λ (v : WorkState). v.own) stopped.noted.made) seat plain at.told.0
 
   -- ---- by itself
 
@@ -169,7 +169,7 @@ module _ {L T : Type 0} {d : Domain} {shows : T → StarterShows} (w : ServerWor
     busy_own closing dies =
         let e : Stamped = record { stamp = dies.stamp; event = End (lost_end dies.ends.entry.request) } in
         let x : Stamped = record { stamp = dies.stop; event = Stop (record { server = dies.ended.server; generation = life_in dies.ended.doing; cause = cause }) } in
-        ap (λ (v : Working). v.own) dies.stops.noted.made ∙ ap (λ (v : Working). v.own ++ x ∷ []) dies.ends.noted.made ∙ append_assoc old.own (e ∷ []) (x ∷ [])
+        ap (λ (v : WorkState). v.own) dies.stops.noted.made ∙ ap (λ (v : WorkState). v.own ++ x ∷ []) dies.ends.noted.made ∙ append_assoc old.own (e ∷ []) (x ∷ [])
 
     pub dies_told : (closing : Closing) (doing : Doing) → DiesFrom doing cause closing slot' slot new old → ToldBefore desk'
     dies_told closing (Busy g request) dies = more_behind w.desk desk' ⊥ ⊥ (_ ∷ _ ∷ []) (busy_own closing dies) seat refl at.told.0
@@ -181,7 +181,7 @@ module _ {L T : Type 0} {d : Domain} {shows : T → StarterShows} (w : ServerWor
     dies_busy closing g request does (its, settles) dies =
         let ends = dies.ends in
         let e : Ended = lost_end ends.entry.request in
-        let mid : Working = dies.between in
+        let mid : WorkState = dies.between in
         let x : StopEvent = record { server = dies.ended.server; generation = life_in dies.ended.doing; cause = cause } in
         let lived : life_in slot.doing ≡ over.life.generation = ap life_in does ∙ its in
         let server : x.server ≡ slot.server = ap (λ (s : ServerSlot). s.server) ends.left in
@@ -190,18 +190,18 @@ module _ {L T : Type 0} {d : Domain} {shows : T → StarterShows} (w : ServerWor
         let settled = settles e ours (lost cause ∙ ap lost_by why) in
         let number = number_of at.serving in
         let first : theirs mid ≡ End e ∷ own = ap theirs ends.noted.made ∙ theirs-more old (record { stamp = dies.stamp; event = End e }) number in
-        let number' : worker_of mid.clients (Stop x) ≡ mid.id.0 = ap (λ (v : Working). v.clients + x.server.0) ends.noted.made ∙ ap (λ s. old.clients + s.0) server ∙ number ∙ ap (λ (v : Working). v.id.0) (sym ends.noted.made) in
+        let number' : worker_of mid.clients (Stop x) ≡ mid.id.0 = ap (λ (v : WorkState). v.clients + x.server.0) ends.noted.made ∙ ap (λ s. old.clients + s.0) server ∙ number ∙ ap (λ (v : WorkState). v.id.0) (sym ends.noted.made) in
         let second : theirs new ≡ Stop x ∷ theirs mid = ap theirs dies.stops.noted.made ∙ theirs-more mid (record { stamp = dies.stop; event = Stop x }) number' in
         let next = ends.noted.next in
-        let stamp = ap (λ (v : Working). v.stamp.0) ends.noted.made in
+        let stamp = ap (λ (v : WorkState). v.stamp.0) ends.noted.made in
         let after = dies.stops.noted.next in
         let rest : List Stamped = record { stamp = dies.stamp; event = End e } ∷ record { stamp = dies.stop; event = Stop x } ∷ [] in
         record {
           at = stops_work (End e ∷ []) (Stop x) x rest
               (record {
                 leads = leads;
-                id = ap (λ (v : Working). v.id) dies.stops.noted.made ∙ ap (λ (v : Working). v.id) ends.noted.made;
-                clients = ap (λ (v : Working). v.clients) dies.stops.noted.made ∙ ap (λ (v : Working). v.clients) ends.noted.made;
+                id = ap (λ (v : WorkState). v.id) dies.stops.noted.made ∙ ap (λ (v : WorkState). v.id) ends.noted.made;
+                clients = ap (λ (v : WorkState). v.clients) dies.stops.noted.made ∙ ap (λ (v : WorkState). v.clients) ends.noted.made;
                 own = second ∙ ap (λ (l : List Event). Stop x ∷ l) first;
               }) (All-cons (OfLife slot.made) (End e) [] (ap (λ h. h.0) lived ∙ last.number) (All-nil (OfLife slot.made))) server generation why (settled_still over (End e ∷ own) settled) (tt, handed_still)
               (busy_own closing dies)
@@ -229,7 +229,7 @@ module _ {L T : Type 0} {d : Domain} {shows : T → StarterShows} (w : ServerWor
       → AtEach (IsHanded over.life.server.0 over.life.generation.0 over.life.asked (IsSentFor d w.queue.0 desk')) (more ++ own) → TellsLast desk' → HasEnded d shows (Some stopped) (at_kept w kept slot' desk')
   worn_ends more worn stopped by full steps its plain server made took still told =
       let s : ℕ = slot.server.0 in
-      let Hands : Life → Type 0 = HandsOn d w.queue.0 s desk' in
+      let Hands : LifeState → Type 0 = HandsOn d w.queue.0 s desk' in
       let on = lives_on steps w.name w.queue.0 s slot.made w.served.lives.items over.life.generation (number_of at.serving) its at.lived in
       let now_hands : Hands over.life = record {
         taken = ap (count (is_take_in s over.life.generation.0)) steps.own ∙ skip_count (is_take_in s over.life.generation.0) more own plain ∙ took;
@@ -238,8 +238,8 @@ module _ {L T : Type 0} {d : Domain} {shows : T → StarterShows} (w : ServerWor
       } in
       let same : lives_in slot'.server.0 (theirs new) ≡ lives_in s own = ap (λ x. lives_in x.0 (theirs new)) server ∙ ap (lives_in s) steps.own ∙ lives_same s slot.made more own its in
       halts (at_kept w kept slot' desk') stopped leads.desk serving (ap (λ s. (shows s).name) starter ∙ at.named_so)
-      (ap (λ (l : List Ending). map (λ (y : Ending). y.life.generation) l ++ map (λ (life : Life). life.generation) (cut_in w.cut)) lives ∙ ap (λ (gs : List Generation). gs ++ map (λ (life : Life). life.generation) (cut_in w.cut)) (map_push (λ (y : Ending). y.life.generation) w.served.lives.items over)
-      ∙ ap (λ (o : Option Life). (map (λ (y : Ending). y.life.generation) w.served.lives.items ++ over.life.generation ∷ []) ++ map (λ (life : Life). life.generation) (cut_in o)) at.cut ∙ append-nil _ ∙ at.lived.are ∙ sym same)
+      (ap (λ (l : List Ending). map (λ (y : Ending). y.life.generation) l ++ map (λ (life : LifeState). life.generation) (cut_in w.cut)) lives ∙ ap (λ (gs : List Generation). gs ++ map (λ (life : LifeState). life.generation) (cut_in w.cut)) (map_push (λ (y : Ending). y.life.generation) w.served.lives.items over)
+      ∙ ap (λ (o : Option LifeState). (map (λ (y : Ending). y.life.generation) w.served.lives.items ++ over.life.generation ∷ []) ++ map (λ (life : LifeState). life.generation) (cut_in o)) at.cut ∙ append-nil _ ∙ at.lived.are ∙ sym same)
       (subst (λ x. All (HandsOn d w.queue.0 x.0 desk') (map (λ (y : Ending). y.life) kept.lives.items ++ cut_in w.cut)) (sym server) (none_cut Hands (map (λ (y : Ending). y.life) kept.lives.items) w.cut at.cut
       (subst (λ (l : List Ending). All Hands (map (λ (y : Ending). y.life) l)) (sym {A = List Ending} lives) (subst (All Hands) (sym (map_push (λ (y : Ending). y.life) w.served.lives.items over)) (All-push Hands (map (λ (y : Ending). y.life) w.served.lives.items) over.life (lives_hand w.served.lives.items on.each) now_hands)))))
       (none_off (IsCut w.name slot'.server.0 (theirs new)) w.cut at.cut)
@@ -248,8 +248,8 @@ module _ {L T : Type 0} {d : Domain} {shows : T → StarterShows} (w : ServerWor
 
   pub worn_still : (worn : Worn) (stopped : Stopped) → stopped ≡ stop_by worn → IsWorn worn old → slot' ≡ slot → new ≡ old → TookEach slot.server.0 own over.life → HasEnded d shows (Some stopped) (at_kept w kept slot' desk')
   worn_still worn stopped by full same work took =
-      worn_ends [] worn stopped by (subst (IsWorn worn) (sym work) full) (still_steps leads (ap (λ (v : Working). v.id) work) (ap (λ (v : Working). v.clients) work) (ap (λ (v : Working). v.own) work)) (All-nil (OfLife slot.made)) (All-nil (λ (e : Event). is_take_in slot.server.0 over.life.generation.0 e ≡ false)) (ap (λ (s : ServerSlot). s.server) same) (ap (λ (s : ServerSlot). s.made) same) took handed_still
-      (still_behind w.desk desk' ⊤ (ap (λ (v : Working). v.own) work) seat (told_last ⊤ w.desk at.told.0))
+      worn_ends [] worn stopped by (subst (IsWorn worn) (sym work) full) (still_steps leads (ap (λ (v : WorkState). v.id) work) (ap (λ (v : WorkState). v.clients) work) (ap (λ (v : WorkState). v.own) work)) (All-nil (OfLife slot.made)) (All-nil (λ (e : Event). is_take_in slot.server.0 over.life.generation.0 e ≡ false)) (ap (λ (s : ServerSlot). s.server) same) (ap (λ (s : ServerSlot). s.made) same) took handed_still
+      (still_behind w.desk desk' ⊤ (ap (λ (v : WorkState). v.own) work) seat (told_last ⊤ w.desk at.told.0))
 
   pub dies_worn : (cause : StopCause) (worn : Worn) (stopped : Stopped) → stopped ≡ stop_by worn → life_in slot.doing ≡ over.life.generation → DiesWorn cause worn slot' slot new old → TookEach slot.server.0 own over.life → HasEnded d shows (Some stopped) (at_kept w kept slot' desk')
   dies_worn cause worn stopped by does (full, inl same) took = worn_still worn stopped by (subst (IsWorn worn) same.1 full) same.0 same.1 took
@@ -258,7 +258,7 @@ module _ {L T : Type 0} {d : Domain} {shows : T → StarterShows} (w : ServerWor
       worn_ends (End e ∷ []) worn stopped by full (noted_steps stamp (End e) old.room leads (number_of at.serving) ends.noted) (All-cons (OfLife slot.made) (End e) [] (ap (λ h. h.0) does ∙ last.number) (All-nil (OfLife slot.made)))
       (All-cons (λ (x : Event). is_take_in slot.server.0 over.life.generation.0 x ≡ false) (End e) [] refl (All-nil (λ (x : Event). is_take_in slot.server.0 over.life.generation.0 x ≡ false)))
       (ap (λ (s : ServerSlot). s.server) ends.left) (ap (λ (s : ServerSlot). s.made) ends.left) took (tt, handed_still)
-      (more_behind w.desk desk' ⊤ ⊤ (record { stamp = stamp; event = End e } ∷ []) (ap (λ (v : Working). v.own) ends.noted.made) seat refl at.told.0)
+      (more_behind w.desk desk' ⊤ ⊤ (record { stamp = stamp; event = End e } ∷ []) (ap (λ (v : WorkState). v.own) ends.noted.made) seat refl at.told.0)
 
 -- ---- what is asked of a death
 

@@ -39,7 +39,7 @@ use Rattle.xa_desk.specs.xa_pipe.declared.turn.Turn.TheVariants.{AwaitsReady, Aw
 use Rattle.xa_desk.specs.xa_pipe.Frames.{is_of_life, is_take_in, invocation, ready_frame, next_frame, return_frame, forward_frame, finish_frame}
 use Rattle.xa_desk.specs.xa_pipe.Life.{stops_life, LinkShows, EachCame, EndsAs, IsForwarded, ComesTo, came_in, turn_behind, finishes_in}
 use Rattle.xa_desk.specs.xa_pipe.Pipe.{invoke_frame}
-use Rattle.xa_desk.specs.xa_pipe.Standing.{Standing as Life, IsSound, Ending, IsOver, cut_short, returned, tag_of}
+use Rattle.xa_desk.specs.xa_pipe.Standing.{LifeState, IsSound, Ending, IsOver, cut_short, returned, tag_of}
 use Rattle.xa_desk.proofs.xa_pipe.Courses.{cut_sound}
 use Rattle.xa_desk.specs.xa_pipe.Changes.{Heard, Fell, Greeted, FellGreeting, Invoked, Unsent, ShutDown, Exits, next_invoke, with_said, turn_after}
 use Rattle.xa_desk.specs.xa_pipe.Following.{is_of, Follows, Settled}
@@ -63,10 +63,11 @@ use Rattle.xa_desk.specs.Serving.{IsServing, IsSentFor}
 use Rattle.xa_desk.specs.xa_events.Cases.{IsShut}
 use Rattle.xa_server_worker.specs.declared.working.ServerWorker.{ServerWorker}
 use Rattle.xa_server_worker.specs.Lives.{IsHanded, TookEach, HandsOn, IsCut}
-use Rattle.xa_server_worker.specs.Steps.{Steps, Takes, is_exit, stop_by}
+use Rattle.xa_server_worker.specs.Steps.{Steps, Takes, is_exit}
 use Rattle.xa_server_worker.specs.Standing.{SettlesBy, IsLast, IsAtWork, IsOff, IsIn, IsFree, HasTaken, MayDie, HasEnded}
 use Rattle.xa_server_worker.specs.Behind.{is_lost, ends_by, ToldBefore}
 use Rattle.xa_server_worker.specs.Passing.{IsDoneBy, Passes}
+use Rattle.xa_server_worker.proofs.Stepping.{stop_by}
 use Rattle.xa_server_worker.proofs.Onward.{ended_done}
 use Rattle.xa_server_worker.proofs.Behind.{calm_before, calm_push, leads_behind, told_last}
 use Rattle.xa_server_worker.proofs.Keeping.{Sendings, OfLife, handed_wider, handed_led, going_on}
@@ -80,24 +81,24 @@ use Rattle.xa_server_worker.specs.Reasons.{ShowsReason}
 -- ---- a life with another turn
 
 -- what it is stays
-pub record Becomes (asked : List Frame) (new old : Life) : Type 0 where
+pub record Becomes (asked : List Frame) (new old : LifeState) : Type 0 where
   pub link : LinkShows
   pub said : List Frame
   pub turn : Turn
   pub made : new ≡ record old { link = link; asked = asked; said = said; turn = turn }
 
-module _ {new old : Life} (asked : List Frame) (becomes : Becomes asked new old) where
+module _ {new old : LifeState} (asked : List Frame) (becomes : Becomes asked new old) where
   pub at_still : {L T : Type 0} {d : Domain} {shows : T → StarterShows} {w : ServerWorker L T} → IsAtWork d shows w (old.generation ∷ []) → IsAtWork d shows w (new.generation ∷ [])
-  at_still {L} {T} {d} {shows} {w} at = subst (λ (l : Life). IsAtWork d shows w (l.generation ∷ [])) (sym becomes.made) at
+  at_still {L} {T} {d} {shows} {w} at = subst (λ (l : LifeState). IsAtWork d shows w (l.generation ∷ [])) (sym becomes.made) at
 
   pub last_still : {name : List ℕ} {slot : ServerSlot} → IsLast name slot old → IsLast name slot new
-  last_still last = record { server = ap (λ (l : Life). l.server) becomes.made ∙ last.server; named = ap (λ (l : Life). l.name) becomes.made ∙ last.named; number = ap (λ (l : Life). l.generation.0) becomes.made ∙ last.number }
+  last_still last = record { server = ap (λ (l : LifeState). l.server) becomes.made ∙ last.server; named = ap (λ (l : LifeState). l.name) becomes.made ∙ last.named; number = ap (λ (l : LifeState). l.generation.0) becomes.made ∙ last.number }
 
   pub handed_still : (Sent : Sendings) (own : List Event) → AtEach (IsHanded old.server.0 old.generation.0 asked Sent) own → AtEach (IsHanded new.server.0 new.generation.0 new.asked Sent) own
-  handed_still Sent own each = subst (λ (l : Life). AtEach (IsHanded l.server.0 l.generation.0 l.asked Sent) own) (sym becomes.made) each
+  handed_still Sent own each = subst (λ (l : LifeState). AtEach (IsHanded l.server.0 l.generation.0 l.asked Sent) own) (sym becomes.made) each
 
   pub does_still : (doing : Doing) → doing ≡ Idle old.generation → doing ≡ Idle new.generation
-  does_still doing is = is ∙ ap (λ (l : Life). Idle l.generation) (sym becomes.made)
+  does_still doing is = is ∙ ap (λ (l : LifeState). Idle l.generation) (sym becomes.made)
 
 -- what a RETURN comes to where no conversation is open
 pub return_is : (setup : Setup) (conns : List RequestId) (value : Rval) (code : ℤ) (payload : Data) → conns ≡ [] → return_by setup conns value code payload ≡ return_by setup [] value code payload
@@ -158,7 +159,7 @@ abbrev pub own_of : {L T : Type 0} → ServerWorker L T → List Event
 own_of w = theirs w.desk.caller.work
 
 -- the INVOKE at its place
-invoke_is : (life : Life) (before : List Event) (t : Taken) (what : Invocation) → is_of_life life.server.0 life.generation.0 t.server.0 t.generation.0 ≡ true → count (is_take_in life.server.0 life.generation.0) before ≡ length life.asked → length life.asked ≡ returned life
+invoke_is : (life : LifeState) (before : List Event) (t : Taken) (what : Invocation) → is_of_life life.server.0 life.generation.0 t.server.0 t.generation.0 ≡ true → count (is_take_in life.server.0 life.generation.0) before ≡ length life.asked → length life.asked ≡ returned life
     → take 1 (drop (count (is_take_in life.server.0 life.generation.0) before) (life.asked ++ next_invoke what.service what.routine what.payload life ∷ []))
     ≡ invoke_frame what.service what.routine (invocation life.server.0 life.generation.0 (Take t ∷ before)) what.payload ∷ []
 unfolding invocation
@@ -188,7 +189,7 @@ finished_event : (setup : Setup) (Why : Reasons) (back : Finish) (e : Event) (be
 finished_event setup Why (Returns back) e before comes = return_event (return_by setup [] back.value back.code back.payload) e comes
 finished_event setup Why (Forwards forward) e before comes = forward_event Why forward.service forward.payload e before comes
 
-follows_done : (setup : Setup) (Why : Reasons) (old new : Life) (own : List Event) (e : Event) (back : Finish) (tag : ℕ) → is_of old.server.0 old.generation.0 e ≡ true → Heard (finish_frame tag back) new old → ComesTo setup Why back (record { event = e; before = own }) → Follows setup Why old own → Follows setup Why new (e ∷ own)
+follows_done : (setup : Setup) (Why : Reasons) (old new : LifeState) (own : List Event) (e : Event) (back : Finish) (tag : ℕ) → is_of old.server.0 old.generation.0 e ≡ true → Heard (finish_frame tag back) new old → ComesTo setup Why back (record { event = e; before = own }) → Follows setup Why old own → Follows setup Why new (e ∷ own)
 follows_done setup Why old new own e back tag its heard comes follows = by e (finished_event setup Why back e own comes) its comes
   where
     by : (x : Event) → IsFinishing x → is_of old.server.0 old.generation.0 x ≡ true → ComesTo setup Why back (record { event = x; before = own }) → Follows setup Why new (x ∷ own)
@@ -212,13 +213,13 @@ return_done {L} {T} {d} w value code payload conns closing slot' desk' leads sea
     let ended = ended_done (return_by d.setup conns value code payload) closing leads (number_of was) serving seat (plain_idle value code payload (is_sound d.setup payload && is_empty conns)) finishes in (ended.0, ended.1, ended.2)
 
 -- as a life ends by TPEXIT nothing but its link changes
-exits_made : {over : Ending} {life : Life} → Exits over life → over.life ≡ record life { link = over.life.link }
-exits_made {over} {life} exits = exits.life ∙ ap (λ (l : LinkShows). record life { link = l }) (sym (ap (λ (s : Life). s.link) exits.life))
+exits_made : {over : Ending} {life : LifeState} → Exits over life → over.life ≡ record life { link = over.life.link }
+exits_made {over} {life} exits = exits.life ∙ ap (λ (l : LinkShows). record life { link = l }) (sym (ap (λ (s : LifeState). s.link) exits.life))
 
 module _ {L T : Type 0} {d : Domain} {shows : T → StarterShows} (w : ServerWorker L T) where
   -- ---- its program says something
 
-  pub greeted_in : (new old : Life) → Greeted new old → IsIn d shows (Idle old.generation) AwaitsReady 0 old w → IsFree d shows new w
+  pub greeted_in : (new old : LifeState) → Greeted new old → IsIn d shows (Idle old.generation) AwaitsReady 0 old w → IsFree d shows new w
   greeted_in new old greeted is =
       let becomes : Becomes old.asked new old = record { link = new.link; said = _; turn = AwaitsInvoke; made = greeted.made } in
       record {
@@ -226,12 +227,12 @@ module _ {L T : Type 0} {d : Domain} {shows : T → StarterShows} (w : ServerWor
         last = last_still old.asked becomes is.last;
         going = record { follows = follows_greeted d.setup old new (own_of w) greeted is.going.follows; handed = handed_still old.asked becomes (IsSentFor d w.queue.0 w.desk) (own_of w) is.going.handed };
         does = does_still old.asked becomes w.served.slot.doing is.does;
-        turns = ap (λ (l : Life). l.turn) greeted.made;
-        asked = ap (λ (l : Life). length l.asked) greeted.made ∙ is.asked ∙ ap (λ (n : ℕ). n + 0) (sym (ap (λ (l : Life). length (finishes_in l.said)) greeted.made ∙ returned_ready old.name old.said));
+        turns = ap (λ (l : LifeState). l.turn) greeted.made;
+        asked = ap (λ (l : LifeState). length l.asked) greeted.made ∙ is.asked ∙ ap (λ (n : ℕ). n + 0) (sym (ap (λ (l : LifeState). length (finishes_in l.said)) greeted.made ∙ returned_ready old.name old.said));
         room = is.room;
       }
 
-  pub next_in : (new old : Life) → Heard next_frame new old → IsIn d shows (Idle old.generation) AwaitsNext 0 old w → IsFree d shows new w
+  pub next_in : (new old : LifeState) → Heard next_frame new old → IsIn d shows (Idle old.generation) AwaitsNext 0 old w → IsFree d shows new w
   next_in new old heard is =
       let becomes : Becomes old.asked new old = record { link = new.link; said = _; turn = _; made = heard.made } in
       record {
@@ -239,13 +240,13 @@ module _ {L T : Type 0} {d : Domain} {shows : T → StarterShows} (w : ServerWor
         last = last_still old.asked becomes is.last;
         going = record { follows = follows_next d.setup old new (own_of w) heard is.going.follows; handed = handed_still old.asked becomes (IsSentFor d w.queue.0 w.desk) (own_of w) is.going.handed };
         does = does_still old.asked becomes w.served.slot.doing is.does;
-        turns = ap (λ (l : Life). l.turn) heard.made ∙ ap (λ (t : Turn). turn_after t next_frame.body) is.turns;
-        asked = ap (λ (l : Life). length l.asked) heard.made ∙ is.asked ∙ ap (λ (n : ℕ). n + 0) (sym (ap (λ (l : Life). length (finishes_in l.said)) heard.made ∙ returned_next old.said));
+        turns = ap (λ (l : LifeState). l.turn) heard.made ∙ ap (λ (t : Turn). turn_after t next_frame.body) is.turns;
+        asked = ap (λ (l : LifeState). length l.asked) heard.made ∙ is.asked ∙ ap (λ (n : ℕ). n + 0) (sym (ap (λ (l : LifeState). length (finishes_in l.said)) heard.made ∙ returned_next old.said));
         room = is.room;
       }
 
   -- it said READY, and may fall behind that
-  pub ready_in : (link : LinkShows) (old : Life) → IsIn d shows (Idle old.generation) AwaitsReady 0 old w → IsIn d shows (Idle old.generation) AwaitsNext 0 (with_said (ready_frame old.name) link old) w
+  pub ready_in : (link : LinkShows) (old : LifeState) → IsIn d shows (Idle old.generation) AwaitsReady 0 old w → IsIn d shows (Idle old.generation) AwaitsNext 0 (with_said (ready_frame old.name) link old) w
   ready_in link old is = record {
     at = is.at;
     last = record { server = is.last.server; named = is.last.named; number = is.last.number };
@@ -265,7 +266,7 @@ module _ {L T : Type 0} {d : Domain} {shows : T → StarterShows} (w : ServerWor
 
   -- ---- a request is taken and sent
 
-  pub taken_in : (slot' : ServerSlot) (desk' : Desk) (life : Life) → Takes d w.queue.0 w.served.slot slot' w.desk desk' → IsFree d shows life w → HasTaken d shows life (at_desk w slot' desk')
+  pub taken_in : (slot' : ServerSlot) (desk' : Desk) (life : LifeState) → Takes d w.queue.0 w.served.slot slot' w.desk desk' → IsFree d shows life w → HasTaken d shows life (at_desk w slot' desk')
   taken_in slot' desk' life takes is =
       let t : Taken = takes.t in
       let g : t.generation ≡ life.generation = takes.generation ∙ ap life_in is.does in
@@ -288,7 +289,7 @@ module _ {L T : Type 0} {d : Domain} {shows : T → StarterShows} (w : ServerWor
         room = is.room;
       }
 
-  module _ (life : Life) (has : HasTaken d shows life w) (what : Invocation) (invokes : Invokes w.served.slot.hand what) where
+  module _ (life : LifeState) (has : HasTaken d shows life w) (what : Invocation) (invokes : Invokes w.served.slot.hand what) where
     abbrev f : Frame
     f = next_invoke what.service what.routine what.payload life
 
@@ -303,7 +304,7 @@ module _ {L T : Type 0} {d : Domain} {shows : T → StarterShows} (w : ServerWor
           handed_wider life.server.0 life.generation.0 life.asked (f ∷ []) (IsSentFor d w.queue.0 w.desk) (IsSentFor d w.queue.0 w.desk) (λ t what sent. sent) has.before has.going.handed,
         )
 
-    pub sent_in : (new : Life) → Invoked f new life → IsIn d shows (Busy new.generation has.t.request) Serving 1 new w
+    pub sent_in : (new : LifeState) → Invoked f new life → IsIn d shows (Busy new.generation has.t.request) Serving 1 new w
     sent_in new invoked =
         let becomes : Becomes (life.asked ++ f ∷ []) new life = record { link = _; said = life.said; turn = Serving; made = invoked.made } in
         record {
@@ -313,9 +314,9 @@ module _ {L T : Type 0} {d : Domain} {shows : T → StarterShows} (w : ServerWor
             follows = subst (Follows d.setup (ShowsReason d w.desk) new) (sym {A = List Event} has.own) (follows_take d.setup life new has.before has.t f has.its invoked has.going.follows);
             handed = subst (AtEach (IsHanded new.server.0 new.generation.0 new.asked (IsSentFor d w.queue.0 w.desk))) (sym {A = List Event} has.own) (handed_still (life.asked ++ f ∷ []) becomes (IsSentFor d w.queue.0 w.desk) (Take has.t ∷ has.before) sent_handed);
           };
-          does = has.does ∙ ap (λ (l : Life). Busy l.generation has.t.request) (sym invoked.made);
-          turns = ap (λ (l : Life). l.turn) invoked.made;
-          asked = ap (λ (l : Life). length l.asked) invoked.made ∙ length-append life.asked (f ∷ []) ∙ ap (λ (n : ℕ). n + 1) (has.asked ∙ ap (λ (l : Life). length (finishes_in l.said)) (sym invoked.made));
+          does = has.does ∙ ap (λ (l : LifeState). Busy l.generation has.t.request) (sym invoked.made);
+          turns = ap (λ (l : LifeState). l.turn) invoked.made;
+          asked = ap (λ (l : LifeState). length l.asked) invoked.made ∙ length-append life.asked (f ∷ []) ∙ ap (λ (n : ℕ). n + 1) (has.asked ∙ ap (λ (l : LifeState). length (finishes_in l.said)) (sym invoked.made));
           room = has.room;
         }
 
@@ -323,13 +324,13 @@ module _ {L T : Type 0} {d : Domain} {shows : T → StarterShows} (w : ServerWor
     pub unsent_dies : (over : Ending) → Unsent f over life → MayDie d shows over w
     unsent_dies over unsent =
         let becomes : Becomes (life.asked ++ f ∷ []) over.life life = record { link = over.life.link; said = life.said; turn = Serving; made = unsent.life } in
-        let serving : over.life.turn ≡ Serving = ap (λ (l : Life). l.turn) unsent.life in
+        let serving : over.life.turn ≡ Serving = ap (λ (l : LifeState). l.turn) unsent.life in
         record {
           at = at_still (life.asked ++ f ∷ []) becomes has.at;
           last = last_still (life.asked ++ f ∷ []) becomes has.last;
           handed = subst (AtEach (IsHanded over.life.server.0 over.life.generation.0 over.life.asked (IsSentFor d w.queue.0 w.desk))) (sym {A = List Event} has.own) (handed_still (life.asked ++ f ∷ []) becomes (IsSentFor d w.queue.0 w.desk) (Take has.t ∷ has.before) sent_handed);
           settles = subst (SettlesBy d w.desk over (own_of w)) (sym has.does) (
-            ap (λ (l : Life). l.generation) (sym unsent.life),
+            ap (λ (l : LifeState). l.generation) (sym unsent.life),
             λ e ours outcome. subst (λ (l : List Event). Settled d.setup (ShowsReason d w.desk) over (End e ∷ l)) (sym {A = List Event} has.own) (settles_unsent d.setup life over has.before has.t e f unsent has.its ours outcome has.going.follows),
           );
           dies = death_in over.cause over.life.turn over.written (λ exited. cc (exited, serving)) (λ idle. cc (idle, serving));
@@ -339,49 +340,49 @@ module _ {L T : Type 0} {d : Domain} {shows : T → StarterShows} (w : ServerWor
 
   -- ---- its program says nothing more
 
-  pub falls_busy : (old : Life) (over : Ending) (request : RequestId) → Fell over old → IsIn d shows (Busy old.generation request) Serving 1 old w → MayDie d shows over w
+  pub falls_busy : (old : LifeState) (over : Ending) (request : RequestId) → Fell over old → IsIn d shows (Busy old.generation request) Serving 1 old w → MayDie d shows over w
   falls_busy old over request fell is =
       let becomes : Becomes old.asked over.life old = record { link = over.life.link; said = old.said; turn = old.turn; made = fell.life } in
-      let serving : over.life.turn ≡ Serving = ap (λ (l : Life). l.turn) fell.life ∙ is.turns in
+      let serving : over.life.turn ≡ Serving = ap (λ (l : LifeState). l.turn) fell.life ∙ is.turns in
       record {
         at = at_still old.asked becomes is.at;
         last = last_still old.asked becomes is.last;
         handed = handed_still old.asked becomes (IsSentFor d w.queue.0 w.desk) (own_of w) is.going.handed;
-        settles = subst (SettlesBy d w.desk over (own_of w)) (sym is.does) (ap (λ (l : Life). l.generation) (sym fell.life), λ e ours outcome. settles_lost d.setup old over (own_of w) e fell is.turns ours outcome is.going.follows);
+        settles = subst (SettlesBy d w.desk over (own_of w)) (sym is.does) (ap (λ (l : LifeState). l.generation) (sym fell.life), λ e ours outcome. settles_lost d.setup old over (own_of w) e fell is.turns ours outcome is.going.follows);
         dies = death_in over.cause over.life.turn over.written (λ exited. cc (exited, serving)) (λ idle. cc (idle, serving));
         shut = λ idle. cc (idle, serving);
         room = is.room;
       }
 
-  pub falls_idle : (old : Life) (over : Ending) (turn : Turn) → (turn ≡ AwaitsReady) ⊎ (turn ≡ AwaitsNext) → Fell over old → IsIn d shows (Idle old.generation) turn 0 old w → MayDie d shows over w
+  pub falls_idle : (old : LifeState) (over : Ending) (turn : Turn) → (turn ≡ AwaitsReady) ⊎ (turn ≡ AwaitsNext) → Fell over old → IsIn d shows (Idle old.generation) turn 0 old w → MayDie d shows over w
   falls_idle old over turn reads fell is =
       let becomes : Becomes old.asked over.life old = record { link = over.life.link; said = old.said; turn = old.turn; made = fell.life } in
-      let same : over.life.turn ≡ turn = ap (λ (l : Life). l.turn) fell.life ∙ is.turns in
+      let same : over.life.turn ≡ turn = ap (λ (l : LifeState). l.turn) fell.life ∙ is.turns in
       let turns = is.turns in
       record {
         at = at_still old.asked becomes is.at;
         last = last_still old.asked becomes is.last;
         handed = handed_still old.asked becomes (IsSentFor d w.queue.0 w.desk) (own_of w) is.going.handed;
-        settles = subst (SettlesBy d w.desk over (own_of w)) (sym is.does) (ap (λ (l : Life). l.generation) (sym fell.life), settles_fallen d.setup old over (own_of w) fell (λ h. elim reads [ inl r ↦ cc (r, turns, h) | inr n ↦ cc (n, turns, h) ]) is.going.follows);
+        settles = subst (SettlesBy d w.desk over (own_of w)) (sym is.does) (ap (λ (l : LifeState). l.generation) (sym fell.life), settles_fallen d.setup old over (own_of w) fell (λ h. elim reads [ inl r ↦ cc (r, turns, h) | inr n ↦ cc (n, turns, h) ]) is.going.follows);
         dies = death_in over.cause over.life.turn over.written (λ exited. elim reads [ inl r ↦ cc (r, same, exited) | inr n ↦ cc (n, same, exited) ]) (λ idle. elim reads [ inl r ↦ cc (r, same, idle) | inr n ↦ cc (n, same, idle) ]);
         shut = λ idle. elim reads [ inl r ↦ cc (r, same, idle) | inr n ↦ cc (n, same, idle) ];
         room = is.room;
       }
 
-  pub falls_greeting : (old : Life) (over : Ending) → FellGreeting over old → IsIn d shows (Idle old.generation) AwaitsReady 0 old w → MayDie d shows over w
+  pub falls_greeting : (old : LifeState) (over : Ending) → FellGreeting over old → IsIn d shows (Idle old.generation) AwaitsReady 0 old w → MayDie d shows over w
   falls_greeting old over (inl fell) is = falls_idle old over AwaitsReady (inl refl) fell is
   falls_greeting old over (inr fell) is = falls_idle (with_said (ready_frame old.name) over.life.link old) over AwaitsNext (inr refl) fell (ready_in over.life.link old is)
 
   -- or it wasn't told to end
-  pub shut_dies : (old : Life) (over : Ending) → ShutDown over old → (over.cause ≡ causes.Shutdown → ⊥) → SawAtQueue d w.queue.0 w.desk (IsShut d.setup w.queue.0) → IsFree d shows old w → MayDie d shows over w
+  pub shut_dies : (old : LifeState) (over : Ending) → ShutDown over old → (over.cause ≡ causes.Shutdown → ⊥) → SawAtQueue d w.queue.0 w.desk (IsShut d.setup w.queue.0) → IsFree d shows old w → MayDie d shows over w
   shut_dies old over shut unshut saw is =
       let becomes : Becomes old.asked over.life old = record { link = over.life.link; said = old.said; turn = old.turn; made = shut.life } in
-      let same : over.life.turn ≡ AwaitsInvoke = ap (λ (l : Life). l.turn) shut.life ∙ is.turns in
+      let same : over.life.turn ≡ AwaitsInvoke = ap (λ (l : LifeState). l.turn) shut.life ∙ is.turns in
       record {
         at = at_still old.asked becomes is.at;
         last = last_still old.asked becomes is.last;
         handed = handed_still old.asked becomes (IsSentFor d w.queue.0 w.desk) (own_of w) is.going.handed;
-        settles = subst (SettlesBy d w.desk over (own_of w)) (sym is.does) (ap (λ (l : Life). l.generation) (sym shut.life), settles_shut d.setup old over (own_of w) shut is.turns is.going.follows);
+        settles = subst (SettlesBy d w.desk over (own_of w)) (sym is.does) (ap (λ (l : LifeState). l.generation) (sym shut.life), settles_shut d.setup old over (own_of w) shut is.turns is.going.follows);
         dies = death_in over.cause over.life.turn over.written (λ exited. cc (exited, same)) (λ idle. unshut);
         shut = λ idle. saw;
         room = is.room;
@@ -390,7 +391,7 @@ module _ {L T : Type 0} {d : Domain} {shows : T → StarterShows} (w : ServerWor
   -- ---- it returns or forwards
 
   -- the service is done with the request, and the server is idle
-  pub finished_in : (new old : Life) (request : RequestId) (back : Finish) (turn : Turn) (event : Event) (slot' : ServerSlot) (desk' : Desk) → Heard (finish_frame (tag_of old) back) new old → IsIn d shows (Busy old.generation request) Serving 1 old w
+  pub finished_in : (new old : LifeState) (request : RequestId) (back : Finish) (turn : Turn) (event : Event) (slot' : ServerSlot) (desk' : Desk) → Heard (finish_frame (tag_of old) back) new old → IsIn d shows (Busy old.generation request) Serving 1 old w
       → turn_after Serving (finish_frame (tag_of old) back).body ≡ turn → ComesTo d.setup (ShowsReason d desk') back (record { event = event; before = own_of w }) → ends_by event false ≡ false → IsDoneBy d w.queue.0 event w.served.slot slot' w.desk desk'
       → IsIn d shows (Idle new.generation) turn 0 new (at_desk w slot' desk')
   finished_in new old request back turn event slot' desk' heard is turns comes ends done =
@@ -412,9 +413,9 @@ module _ {L T : Type 0} {d : Domain} {shows : T → StarterShows} (w : ServerWor
           handed = subst (AtEach (IsHanded new.server.0 new.generation.0 new.asked (IsSentFor d w.queue.0 desk'))) (sym {A = List Event} serves.steps.own)
               (finished_handed event (finished_event d.setup (ShowsReason d desk') back event (own_of w) comes), handed_still old.asked becomes (IsSentFor d w.queue.0 desk') (own_of w) (handed_led old.server.0 old.generation.0 d w.queue.0 w.desk desk' old.asked (own_of w) serves.steps.leads is.going.handed));
         };
-        does = done.idle ∙ ap Idle lived ∙ ap (λ (l : Life). Idle l.generation) (sym heard.made);
-        turns = ap (λ (l : Life). l.turn) heard.made ∙ ap (λ (t : Turn). turn_after t (finish_frame (tag_of old) back).body) is.turns ∙ turns;
-        asked = ap (λ (l : Life). length l.asked) heard.made ∙ is.asked ∙ sym (ap (λ (l : Life). length (finishes_in l.said)) heard.made ∙ returned_push old.said (tag_of old) back) ∙ add_none (returned new);
+        does = done.idle ∙ ap Idle lived ∙ ap (λ (l : LifeState). Idle l.generation) (sym heard.made);
+        turns = ap (λ (l : LifeState). l.turn) heard.made ∙ ap (λ (t : Turn). turn_after t (finish_frame (tag_of old) back).body) is.turns ∙ turns;
+        asked = ap (λ (l : LifeState). length l.asked) heard.made ∙ is.asked ∙ sym (ap (λ (l : LifeState). length (finishes_in l.said)) heard.made ∙ returned_push old.said (tag_of old) back) ∙ add_none (returned new);
         room = is.room;
       }
     where
@@ -432,7 +433,7 @@ module _ {L T : Type 0} {d : Domain} {shows : T → StarterShows} (w : ServerWor
       of_number (Forward f) its ours number = its_generation f.server.0 f.generation.0 old.server.0 old.generation.0 ours ∙ number
       of_number _ its ours number = absurd its
 
-  pub returned_in : (new old : Life) (request : RequestId) (value : Rval) (code : ℤ) (payload : Data) (conns : List RequestId) (closing : Closing) (slot' : ServerSlot) (desk' : Desk) → Heard (return_frame (tag_of old) value code payload) new old → IsIn d shows (Busy old.generation request) Serving 1 old w
+  pub returned_in : (new old : LifeState) (request : RequestId) (value : Rval) (code : ℤ) (payload : Data) (conns : List RequestId) (closing : Closing) (slot' : ServerSlot) (desk' : Desk) → Heard (return_frame (tag_of old) value code payload) new old → IsIn d shows (Busy old.generation request) Serving 1 old w
       → conns ≡ [] → Leads d w.desk desk' → desk'.caller.seat ≡ w.desk.caller.seat → IsServing d w.queue.0 slot' desk' → Finishes (return_by d.setup conns value code payload) closing slot' w.served.slot desk'.caller.work w.desk.caller.work
       → IsIn d shows (Idle new.generation) (turn_behind value) 0 new (at_desk w slot' desk') × (is_exit value ≡ true → slot'.last ≡ lasts.Badly) × ToldBefore desk'
   returned_in new old request value code payload conns closing slot' desk' heard is none leads seat serving finishes =
@@ -445,58 +446,58 @@ module _ {L T : Type 0} {d : Domain} {shows : T → StarterShows} (w : ServerWor
       )
 
   -- the request went on, or its forward failed
-  pub forwarded_in : (new old : Life) (request : RequestId) (forward : Onward) (closing : Option Closing) (slot' : ServerSlot) (desk' : Desk) → Heard (forward_frame (tag_of old) forward.service forward.payload) new old → IsIn d shows (Busy old.generation request) Serving 1 old w
+  pub forwarded_in : (new old : LifeState) (request : RequestId) (forward : Onward) (closing : Option Closing) (slot' : ServerSlot) (desk' : Desk) → Heard (forward_frame (tag_of old) forward.service forward.payload) new old → IsIn d shows (Busy old.generation request) Serving 1 old w
       → Passes d w.queue.0 forward.service forward.payload closing w.served.slot slot' w.desk desk' → IsIn d shows (Idle new.generation) AwaitsNext 0 new (at_desk w slot' desk')
   forwarded_in new old request forward closing slot' desk' heard is passes =
       finished_in new old request (Forwards forward) AwaitsNext passes.event slot' desk' heard is refl passes.by (keeps_on (ShowsReason d desk') forward.service forward.payload passes.event (own_of w) passes.by) passes.done
 
   -- and may have to be cut then
-  pub heard_hands : (new old : Life) (f : Frame) {doing : Doing} {turn : Turn} {n : ℕ} (slot' : ServerSlot) (desk' : Desk) → Heard f new old → IsIn d shows doing turn n old w → Steps d [] w.desk desk' → slot'.server ≡ w.served.slot.server → HandsOn d w.queue.0 slot'.server.0 desk' new
+  pub heard_hands : (new old : LifeState) (f : Frame) {doing : Doing} {turn : Turn} {n : ℕ} (slot' : ServerSlot) (desk' : Desk) → Heard f new old → IsIn d shows doing turn n old w → Steps d [] w.desk desk' → slot'.server ≡ w.served.slot.server → HandsOn d w.queue.0 slot'.server.0 desk' new
   heard_hands new old f slot' desk' heard is steps server =
       let hands : HandsOn d w.queue.0 slot'.server.0 desk' old = subst (λ s. HandsOn d w.queue.0 s.0 desk' old) (sym server) (hands_led steps (in_hands is)) in
       subst (HandsOn d w.queue.0 slot'.server.0 desk') (sym heard.made) (record { taken = hands.taken; handed = hands.handed })
 
-  pub heard_cut : (new old : Life) (f : Frame) {doing : Doing} {turn : Turn} {n : ℕ} (slot' : ServerSlot) (desk' : Desk) → Heard f new old → IsIn d shows doing turn n old w → Steps d [] w.desk desk' → slot'.server ≡ w.served.slot.server → IsSound new → IsCut w.name slot'.server.0 (theirs desk'.caller.work) (cut_short new)
+  pub heard_cut : (new old : LifeState) (f : Frame) {doing : Doing} {turn : Turn} {n : ℕ} (slot' : ServerSlot) (desk' : Desk) → Heard f new old → IsIn d shows doing turn n old w → Steps d [] w.desk desk' → slot'.server ≡ w.served.slot.server → IsSound new → IsCut w.name slot'.server.0 (theirs desk'.caller.work) (cut_short new)
   heard_cut new old f slot' desk' heard is steps server sound = record {
     cut_off = cut_sound new sound;
-    its = ap (λ (l : Life). l.server.0) heard.made ∙ ap (λ s. s.0) (is.last.server ∙ sym server);
-    named = ap (λ (l : Life). l.name) heard.made ∙ is.last.named;
-    alive = ap (λ (l : Life). count (stops_life slot'.server.0 l.generation.0) (theirs desk'.caller.work)) heard.made ∙ ap (count (stops_life slot'.server.0 old.generation.0)) steps.own ∙ ap (λ s. count (stops_life s.0 old.generation.0) (own_of w)) server ∙ in_alive is;
+    its = ap (λ (l : LifeState). l.server.0) heard.made ∙ ap (λ s. s.0) (is.last.server ∙ sym server);
+    named = ap (λ (l : LifeState). l.name) heard.made ∙ is.last.named;
+    alive = ap (λ (l : LifeState). count (stops_life slot'.server.0 l.generation.0) (theirs desk'.caller.work)) heard.made ∙ ap (count (stops_life slot'.server.0 old.generation.0)) steps.own ∙ ap (λ s. count (stops_life s.0 old.generation.0) (own_of w)) server ∙ in_alive is;
   }
 
-  pub in_turn : {doing : Doing} {turn turn' : Turn} {n : ℕ} {life : Life} → turn ≡ turn' → IsIn d shows doing turn n life w → IsIn d shows doing turn' n life w
+  pub in_turn : {doing : Doing} {turn turn' : Turn} {n : ℕ} {life : LifeState} → turn ≡ turn' → IsIn d shows doing turn n life w → IsIn d shows doing turn' n life w
   in_turn {doing} {turn} {turn'} {n} {life} same is = subst (λ (t : Turn). IsIn d shows doing t n life w) same is
 
   -- its life ends by that
 
-  pub exits_off : (life : Life) (over : Ending) (kept : Served L T) (slot' : ServerSlot) (desk' : Desk) (stamp : Stamp) → IsIn d shows (Idle life.generation) Exited 0 life w → ToldBefore w.desk → Exits over life → IsOver over → kept.lives.items ≡ w.served.lives.items ++ over ∷ [] → kept.starter ≡ w.served.starter
+  pub exits_off : (life : LifeState) (over : Ending) (kept : Served L T) (slot' : ServerSlot) (desk' : Desk) (stamp : Stamp) → IsIn d shows (Idle life.generation) Exited 0 life w → ToldBefore w.desk → Exits over life → IsOver over → kept.lives.items ≡ w.served.lives.items ++ over ∷ [] → kept.starter ≡ w.served.starter
       → Leads d w.desk desk' → desk'.caller.seat ≡ w.desk.caller.seat → IsServing d w.queue.0 slot' desk' → Stops causes.Exit stamp slot' w.served.slot desk'.caller.work w.desk.caller.work → IsOff d shows (at_kept w kept slot' desk')
   exits_off life over kept slot' desk' stamp is untold exits ended lives starter leads seat serving stopped =
-      let turn : over.life.turn ≡ Exited = ap (λ (l : Life). l.turn) exits.life ∙ is.turns in
+      let turn : over.life.turn ≡ Exited = ap (λ (l : LifeState). l.turn) exits.life ∙ is.turns in
       let becomes : Becomes life.asked over.life life = record { link = over.life.link; said = life.said; turn = life.turn; made = exits_made exits } in
       record {
         at = stops_idle w over (at_still life.asked becomes is.at) (last_still life.asked becomes is.last) ended
-            (handed_still life.asked becomes (IsSentFor d w.queue.0 w.desk) (own_of w) is.going.handed) kept lives starter slot' desk' leads seat serving causes.Exit stamp (sym exits.cause) (ap life_in is.does ∙ ap (λ (l : Life). l.generation) (sym exits.life))
+            (handed_still life.asked becomes (IsSentFor d w.queue.0 w.desk) (own_of w) is.going.handed) kept lives starter slot' desk' leads seat serving causes.Exit stamp (sym exits.cause) (ap life_in is.does ∙ ap (λ (l : LifeState). l.generation) (sym exits.life))
             (settles_exited d.setup life over (own_of w) exits is.turns is.going.follows) (λ idle. cc (idle, turn)) (told_last ⊥ desk' (leads_behind w.desk desk' leads seat untold)) stopped;
         off = ap (λ (s : ServerSlot). s.doing) stopped.left;
         up = ap (λ (s : ServerSlot). s.shut) stopped.left;
       }
 
-  pub exits_worn : (life : Life) (over : Ending) (kept : Served L T) (slot' : ServerSlot) (desk' : Desk) → IsIn d shows (Idle life.generation) Exited 0 life w → Exits over life → IsOver over → kept.lives.items ≡ w.served.lives.items ++ over ∷ [] → kept.starter ≡ w.served.starter
+  pub exits_worn : (life : LifeState) (over : Ending) (kept : Served L T) (slot' : ServerSlot) (desk' : Desk) → IsIn d shows (Idle life.generation) Exited 0 life w → Exits over life → IsOver over → kept.lives.items ≡ w.served.lives.items ++ over ∷ [] → kept.starter ≡ w.served.starter
       → Leads d w.desk desk' → desk'.caller.seat ≡ w.desk.caller.seat → IsServing d w.queue.0 slot' desk' → (worn : Worn) (stopped : Stopped) → stopped ≡ stop_by worn → IsWorn worn w.desk.caller.work → slot' ≡ w.served.slot → desk'.caller.work ≡ w.desk.caller.work → HasEnded d shows (Some stopped) (at_kept w kept slot' desk')
   exits_worn life over kept slot' desk' is exits ended lives starter leads seat serving worn stopped by full same work =
       let becomes : Becomes life.asked over.life life = record { link = over.life.link; said = life.said; turn = life.turn; made = exits_made exits } in
-      worn_still w over (at_still life.asked becomes is.at) (last_still life.asked becomes is.last) ended (handed_still life.asked becomes (IsSentFor d w.queue.0 w.desk) (own_of w) is.going.handed) kept lives starter slot' desk' leads seat serving worn stopped by full same work (subst (λ (l : Life). TookEach w.served.slot.server.0 (own_of w) l) (sym exits.life) (in_took is))
+      worn_still w over (at_still life.asked becomes is.at) (last_still life.asked becomes is.last) ended (handed_still life.asked becomes (IsSentFor d w.queue.0 w.desk) (own_of w) is.going.handed) kept lives starter slot' desk' leads seat serving worn stopped by full same work (subst (λ (l : LifeState). TookEach w.served.slot.server.0 (own_of w) l) (sym exits.life) (in_took is))
 
-  pub shuts_worn : (life : Life) (over : Ending) (kept : Served L T) (slot' : ServerSlot) (desk' : Desk) → IsFree d shows life w → ShutDown over life → IsOver over → kept.lives.items ≡ w.served.lives.items ++ over ∷ [] → kept.starter ≡ w.served.starter
+  pub shuts_worn : (life : LifeState) (over : Ending) (kept : Served L T) (slot' : ServerSlot) (desk' : Desk) → IsFree d shows life w → ShutDown over life → IsOver over → kept.lives.items ≡ w.served.lives.items ++ over ∷ [] → kept.starter ≡ w.served.starter
       → Leads d w.desk desk' → desk'.caller.seat ≡ w.desk.caller.seat → IsServing d w.queue.0 slot' desk' → (worn : Worn) (stopped : Stopped) → stopped ≡ stop_by worn → IsWorn worn w.desk.caller.work → slot' ≡ w.served.slot → desk'.caller.work ≡ w.desk.caller.work → HasEnded d shows (Some stopped) (at_kept w kept slot' desk')
   shuts_worn life over kept slot' desk' is shut ended lives starter leads seat serving worn stopped by full same work =
       let becomes : Becomes life.asked over.life life = record { link = over.life.link; said = life.said; turn = life.turn; made = shut.life } in
-      worn_still w over (at_still life.asked becomes is.at) (last_still life.asked becomes is.last) ended (handed_still life.asked becomes (IsSentFor d w.queue.0 w.desk) (own_of w) is.going.handed) kept lives starter slot' desk' leads seat serving worn stopped by full same work (subst (λ (l : Life). TookEach w.served.slot.server.0 (own_of w) l) (sym shut.life) (in_took is))
+      worn_still w over (at_still life.asked becomes is.at) (last_still life.asked becomes is.last) ended (handed_still life.asked becomes (IsSentFor d w.queue.0 w.desk) (own_of w) is.going.handed) kept lives starter slot' desk' leads seat serving worn stopped by full same work (subst (λ (l : LifeState). TookEach w.served.slot.server.0 (own_of w) l) (sym shut.life) (in_took is))
 
   -- or it was told to end
 
-  pub shuts_down : (life : Life) (over : Ending) (kept : Served L T) (slot' : ServerSlot) (desk' : Desk) (stamp : Stamp) → IsFree d shows life w → ShutDown over life → IsOver over → causes.Shutdown ≡ over.cause → kept.lives.items ≡ w.served.lives.items ++ over ∷ [] → kept.starter ≡ w.served.starter
+  pub shuts_down : (life : LifeState) (over : Ending) (kept : Served L T) (slot' : ServerSlot) (desk' : Desk) (stamp : Stamp) → IsFree d shows life w → ShutDown over life → IsOver over → causes.Shutdown ≡ over.cause → kept.lives.items ≡ w.served.lives.items ++ over ∷ [] → kept.starter ≡ w.served.starter
       → Leads d w.desk desk' → desk'.caller.seat ≡ w.desk.caller.seat → IsServing d w.queue.0 slot' desk' → SawAtQueue d w.queue.0 w.desk (IsShut d.setup w.queue.0) → Stops causes.Shutdown stamp slot' w.served.slot desk'.caller.work w.desk.caller.work → HasEnded d shows None (at_kept w kept slot' desk')
   shuts_down life over kept slot' desk' stamp is shut ended why lives starter leads seat serving saw stopped =
       let becomes : Becomes life.asked over.life life = record { link = over.life.link; said = life.said; turn = life.turn; made = shut.life } in
@@ -505,7 +506,7 @@ module _ {L T : Type 0} {d : Domain} {shows : T → StarterShows} (w : ServerWor
       let handed = handed_still life.asked becomes (IsSentFor d w.queue.0 w.desk) (own_of w) is.going.handed in
       let told = stop_told w over now last ended handed kept lives starter slot' desk' leads seat serving causes.Shutdown stamp refl stopped in
       let at = stops_idle w over now last ended handed kept lives starter slot' desk' leads seat serving causes.Shutdown stamp why
-      (ap life_in is.does ∙ ap (λ (l : Life). l.generation) (sym shut.life)) (settles_shut d.setup life over (own_of w) shut is.turns is.going.follows) (λ idle. saw) (told_last ⊥ desk' told) stopped in
+      (ap life_in is.does ∙ ap (λ (l : LifeState). l.generation) (sym shut.life)) (settles_shut d.setup life over (own_of w) shut is.turns is.going.follows) (λ idle. saw) (told_last ⊥ desk' told) stopped in
       let server = ap (λ (s : ServerSlot). s.server) stopped.left in
       let off : slot'.doing ≡ Off = ap (λ (s : ServerSlot). s.doing) stopped.left in
       ends_done (at_kept w kept slot' desk') at (off_hand slot'.doing off serving.stands.hand) (inl (shut_read serving (ap (λ (s : ServerSlot). s.shut) stopped.left), queue_stays d w.desk desk' leads w.queue.0 (IsShut d.setup w.queue.0) saw))

@@ -21,10 +21,10 @@ use Rattle.xa_desk.specs.xa_stamp.declared.home.Stamped.{Stamped}
 use Rattle.xa_desk.specs.xa_worker.Seen.{past_in, SawQueue}
 use Rattle.xa_desk.proofs.xa_worker.Lists.{count_part, past_in-append}
 use Rattle.xa_desk.specs.xa_held.declared.cargo.Invocation.{Invocation}
-use Rattle.xa_desk.specs.xa_worker.Work.{Standing as Working, theirs}
+use Rattle.xa_desk.specs.xa_worker.Work.{WorkState, theirs}
 use Rattle.xa_desk.specs.xa_pipe.Frames.{is_of_life, is_take_in}
 use Rattle.xa_desk.specs.xa_pipe.Life.{stops_life}
-use Rattle.xa_desk.specs.xa_pipe.Standing.{Standing as Life, Ending}
+use Rattle.xa_desk.specs.xa_pipe.Standing.{LifeState, Ending}
 use Rattle.xa_desk.specs.xa_pipe.Following.{is_of, HasStopped}
 use Rattle.xa_desk.proofs.xa_pipe.Followed.{stopped_idle}
 use Rattle.xa_desk.specs.declared.domain.Domain.{Domain}
@@ -186,8 +186,8 @@ module _ {d : Domain} {old new : Desk} {more : List Event} (steps : Steps d more
   rest_none : (server g : ℕ) → old.caller.work.clients + server ≡ old.caller.work.id.0 → All (λ (e : Event). stops_life server g e ≡ false) more → All (λ (x : Stamped). stops_life server g x.event ≡ false) steps.leads.own.0
   rest_none server g number none =
       let p : Event → Bool = stops_life server g in
-      let w : Working = old.caller.work in
-      let w' : Working = new.caller.work in
+      let w : WorkState = old.caller.work in
+      let w' : WorkState = new.caller.work in
       let rest : List Stamped = steps.leads.own.0 in
       let now : count p (theirs w') ≡ count p (past_in w'.own) = count_part p (of_worker w'.clients w'.id.0) (stops_own w'.clients w'.id.0 server g (ap (λ n. n + server) steps.clients ∙ number ∙ ap (λ i. i.0) (sym steps.id))) (past_in w'.own) in
       let before : count p (theirs w) ≡ count p (past_in w.own) = count_part p (of_worker w.clients w.id.0) (stops_own w.clients w.id.0 server g number) (past_in w.own) in
@@ -234,7 +234,7 @@ module _ {d : Domain} {old new : Desk} {more : List Event} (steps : Steps d more
       (lived_one name queue server over number (All-weaker (OfLife g) (λ (e : Event). is_of server over.life.generation.0 e ≡ false) (other_life server g over.life.generation.0 (λ same. absurd (omega (arith, same, low, some)))) more its) (All-head (IsLived d name queue server old) over lives each))
       (lived_all name queue server n g lives number its (All-tail (λ (x : Ending). x.life.generation.0 + n ≤ g) over lives below) some (All-tail (IsLived d name queue server old) over lives each))
 
-  pub going_on : (queue : ℕ) (own : List Event) (life : Life) → IsGoing d queue old own life → IsGoing d queue new own life
+  pub going_on : (queue : ℕ) (own : List Event) (life : LifeState) → IsGoing d queue old own life → IsGoing d queue new own life
   going_on queue own life is = record { follows = follows_led d.setup (ShowsReason d old) (ShowsReason d new) (reason_led d old new steps.leads) life own is.follows; handed = handed_led life.server.0 life.generation.0 d queue old new life.asked own steps.leads is.handed }
 
   -- ---- with the life that goes on

@@ -1,6 +1,6 @@
 -- Where a server's worker stands, as its desk and its slot go on.
 use Rattle.std.proofs.Common.{◌≡◌, ◌<◌, ◌⊎◌, ℕ, ◌+◌, Bool, false, true, List, [], ◌∷◌, ◌++◌, map, length, Option, Some, None, inl, inr, refl, sym, ◌∙◌, ap, subst, arith}
-use Rattle.std.specs.Prelude.{IfSome, ⊤}
+use Rattle.std.specs.Prelude.{IfSome}
 use Rattle.std.specs.List.{All}
 use Rattle.std.proofs.lemmas.Bool.{false≢true}
 use Rattle.std.proofs.lemmas.List.{append-nil}
@@ -17,12 +17,11 @@ use Rattle.xa_desk.specs.xa_events.Server.{starts, is_gone, was_shut_down}
 use Rattle.xa_desk.specs.xa_stamp.declared.home.Stamped.{Stamped}
 use Rattle.xa_desk.specs.xa_worker.Seen.{past_in, SawQueue}
 use Rattle.xa_desk.proofs.xa_worker.Lists.{count_part}
-use Rattle.xa_desk.specs.xa_worker.Work.{Standing as Working, theirs}
+use Rattle.xa_desk.specs.xa_worker.Work.{WorkState, theirs}
 use Rattle.xa_desk.specs.xa_pipe.declared.turn.Turn.TheVariants.{AwaitsInvoke}
 use Rattle.xa_desk.specs.xa_pipe.declared.turn.Turn.{Turn}
 use Rattle.xa_desk.specs.xa_pipe.Life.{stops_life}
-use Rattle.xa_desk.specs.xa_pipe.Frames.{is_take_in}
-use Rattle.xa_desk.specs.xa_pipe.Standing.{Standing as Life, Ending, IsOver, cut_short}
+use Rattle.xa_desk.specs.xa_pipe.Standing.{LifeState, Ending, IsOver, cut_short}
 use Rattle.xa_desk.specs.xa_pipe.Following.{is_of, HasStopped}
 use Rattle.xa_desk.specs.xa_server.declared.slot.ServerSlot.{ServerSlot}
 use Rattle.xa_desk.specs.xa_server.declared.served.Served.{Served}
@@ -94,7 +93,7 @@ pub started_on : {name : List ℕ} {n n' f f' : ℕ} {shown shown' : StarterShow
 started_on {name} {n} {n'} {f} {f'} {shown} {shown'} made failed shows is =
     subst (λ s. HasStarted name n' f' s) (sym shows) (subst (λ (m : ℕ). HasStarted name m f' shown) (sym made) (subst (λ (m : ℕ). HasStarted name n m shown) (sym failed) is))
 
-pub last_on : (name : List ℕ) (slot slot' : ServerSlot) (life : Life) → slot'.server ≡ slot.server → slot'.made ≡ slot.made → IsLast name slot life → IsLast name slot' life
+pub last_on : (name : List ℕ) (slot slot' : ServerSlot) (life : LifeState) → slot'.server ≡ slot.server → slot'.made ≡ slot.made → IsLast name slot life → IsLast name slot' life
 last_on name slot slot' life server made last = record { server = last.server ∙ sym server; named = last.named; number = last.number ∙ sym made }
 
 -- ---- an INVOKE for each take
@@ -106,18 +105,18 @@ lives_hand {d} {name} {queue} {server} {desk} lives each =
     (λ over is. record { taken = subst (λ (s : ℕ). TookEach s (theirs desk.caller.work) over.life) is.its is.stopped.taken; handed = is.handed }) lives each)
 
 -- so it stays where the worker noted nothing of its own
-pub hands_led : {d : Domain} {queue server : ℕ} {old new : Desk} {life : Life} → Steps d [] old new → HandsOn d queue server old life → HandsOn d queue server new life
+pub hands_led : {d : Domain} {queue server : ℕ} {old new : Desk} {life : LifeState} → Steps d [] old new → HandsOn d queue server old life → HandsOn d queue server new life
 hands_led {d} {queue} {server} {old} {new} {life} steps is = record {
   taken = subst (λ (own : List Event). TookEach server own life) (sym {A = List Event} steps.own) is.taken;
   handed = subst (AtEach (IsHanded server life.generation.0 life.asked (IsSentFor d queue new))) (sym {A = List Event} steps.own) (handed_led server life.generation.0 d queue old new life.asked (theirs old.caller.work) steps.leads is.handed);
 }
 
 -- with none that was cut
-pub none_cut : (P : Life → Type 0) (lives : List Life) (cut : Option Life) → cut ≡ None → All P lives → All P (lives ++ cut_in cut)
-none_cut P lives cut none all = subst (λ (o : Option Life). All P (lives ++ cut_in o)) (sym none) (subst (All P) (sym (append-nil lives)) all)
+pub none_cut : (P : LifeState → Type 0) (lives : List LifeState) (cut : Option LifeState) → cut ≡ None → All P lives → All P (lives ++ cut_in cut)
+none_cut P lives cut none all = subst (λ (o : Option LifeState). All P (lives ++ cut_in o)) (sym none) (subst (All P) (sym (append-nil lives)) all)
 
-pub none_off : (P : Life → Type 0) (cut : Option Life) → cut ≡ None → All P (cut_in cut)
-none_off P cut none = subst (λ (o : Option Life). All P (cut_in o)) (sym none) (All-nil P)
+pub none_off : (P : LifeState → Type 0) (cut : Option LifeState) → cut ≡ None → All P (cut_in cut)
+none_off P cut none = subst (λ (o : Option LifeState). All P (cut_in o)) (sym none) (All-nil P)
 
 -- the worker with another slot at another desk
 abbrev pub at_desk : {L T : Type 0} → ServerWorker L T → ServerSlot → Desk → ServerWorker L T
@@ -145,7 +144,7 @@ module _ {L T : Type 0} {d : Domain} {shows : T → StarterShows} where
   }
 
   -- where nothing was noted it is in it still
-  pub in_on : (w : ServerWorker L T) (slot' : ServerSlot) (desk' : Desk) (doing : Doing) (turn : Turn) (n : ℕ) (life : Life) → Serves d w.queue.0 [] w.served.slot slot' w.desk desk' → slot' ≡ w.served.slot → (IsCalm w.desk → IsCalm desk') → IsIn d shows doing turn n life w
+  pub in_on : (w : ServerWorker L T) (slot' : ServerSlot) (desk' : Desk) (doing : Doing) (turn : Turn) (n : ℕ) (life : LifeState) → Serves d w.queue.0 [] w.served.slot slot' w.desk desk' → slot' ≡ w.served.slot → (IsCalm w.desk → IsCalm desk') → IsIn d shows doing turn n life w
       → IsIn d shows doing turn n life (at_desk w slot' desk')
   in_on w slot' desk' doing turn n life serves same calm is = record {
     at = work_on w slot' desk' [] life.generation serves (All-none w.served.slot.made) calm is.at;
@@ -169,7 +168,7 @@ module _ {L T : Type 0} {d : Domain} {shows : T → StarterShows} where
         → SawAtQueue d w.queue.0 w.desk (IsShut d.setup w.queue.0) → EndsShut d w.queue.0 desk' over
     ends_shut rest own later alive saw whole on =
         let p : Event → Bool = stops_life over.life.server.0 over.life.generation.0 in
-        let old : Working = w.desk.caller.work in
+        let old : WorkState = w.desk.caller.work in
         let P : Stamped → Type 0 = λ x. p x.event ≡ true → SawQueue d.setup w.queue.0 (entries_of whole (QueueHome w.queue.0)) x.stamp (IsShut d.setup w.queue.0) in
         let number = ap (λ s. old.clients + s.0) last.server ∙ number_of at.serving in
         let none : count p (past_in old.own) ≡ 0 = sym (count_part p (of_worker old.clients old.id.0) (stops_own old.clients old.id.0 over.life.server.0 over.life.generation.0 number) (past_in old.own)) ∙ alive in
@@ -205,22 +204,22 @@ module _ {L T : Type 0} {d : Domain} {shows : T → StarterShows} where
       told = told;
     }
 
-  pub in_took : {w : ServerWorker L T} {doing : Doing} {turn : Turn} {n : ℕ} {life : Life} → IsIn d shows doing turn n life w → TookEach w.served.slot.server.0 (theirs w.desk.caller.work) life
+  pub in_took : {w : ServerWorker L T} {doing : Doing} {turn : Turn} {n : ℕ} {life : LifeState} → IsIn d shows doing turn n life w → TookEach w.served.slot.server.0 (theirs w.desk.caller.work) life
   in_took {w} {doing} {turn} {n} {life} is = subst (λ s. TookEach s.0 (theirs w.desk.caller.work) life) is.last.server is.going.follows.taken
 
-  pub in_hands : {w : ServerWorker L T} {doing : Doing} {turn : Turn} {n : ℕ} {life : Life} → IsIn d shows doing turn n life w → HandsOn d w.queue.0 w.served.slot.server.0 w.desk life
+  pub in_hands : {w : ServerWorker L T} {doing : Doing} {turn : Turn} {n : ℕ} {life : LifeState} → IsIn d shows doing turn n life w → HandsOn d w.queue.0 w.served.slot.server.0 w.desk life
   in_hands {w} {doing} {turn} {n} {life} is = record {
     taken = in_took is;
     handed = subst (λ s. AtEach (IsHanded s.0 life.generation.0 life.asked (IsSentFor d w.queue.0 w.desk)) (theirs w.desk.caller.work)) is.last.server is.going.handed;
   }
 
-  pub in_alive : {w : ServerWorker L T} {doing : Doing} {turn : Turn} {n : ℕ} {life : Life} → IsIn d shows doing turn n life w → count (stops_life w.served.slot.server.0 life.generation.0) (theirs w.desk.caller.work) ≡ 0
+  pub in_alive : {w : ServerWorker L T} {doing : Doing} {turn : Turn} {n : ℕ} {life : LifeState} → IsIn d shows doing turn n life w → count (stops_life w.served.slot.server.0 life.generation.0) (theirs w.desk.caller.work) ≡ 0
   in_alive {w} {doing} {turn} {n} {life} is = subst (λ s. count (stops_life s.0 life.generation.0) (theirs w.desk.caller.work) ≡ 0) is.last.server is.going.follows.alive
 
   -- ---- where the worker's work is over
 
   -- at a halt
-  pub halts : (w : ServerWorker L T) (stopped : Stopped) → IsDesk d w.desk → IsServing d w.queue.0 w.served.slot w.desk → (shows w.served.starter).name ≡ w.name → map (λ (over : Ending). over.life.generation) w.served.lives.items ++ map (λ (life : Life). life.generation) (cut_in w.cut) ≡ lives_in w.served.slot.server.0 (theirs w.desk.caller.work)
+  pub halts : (w : ServerWorker L T) (stopped : Stopped) → IsDesk d w.desk → IsServing d w.queue.0 w.served.slot w.desk → (shows w.served.starter).name ≡ w.name → map (λ (over : Ending). over.life.generation) w.served.lives.items ++ map (λ (life : LifeState). life.generation) (cut_in w.cut) ≡ lives_in w.served.slot.server.0 (theirs w.desk.caller.work)
       → All (HandsOn d w.queue.0 w.served.slot.server.0 w.desk) (map (λ (over : Ending). over.life) w.served.lives.items ++ cut_in w.cut) → All (IsCut w.name w.served.slot.server.0 (theirs w.desk.caller.work)) (cut_in w.cut)
       → HasStartedSoFar w.name w.served.slot.made (failed_starts w.served.slot.server.0 (theirs w.desk.caller.work)) (shows w.served.starter) → TellsLast w.desk → IsStopAt w.desk stopped → HasEnded d shows (Some stopped) w
   halts w stopped is serving named_so are taken off so_far told at_end = record {
@@ -244,7 +243,7 @@ module _ {L T : Type 0} {d : Domain} {shows : T → StarterShows} where
   }
 
   -- in a life, which is cut off
-  pub halts_at : (w : ServerWorker L T) (cut : Option Life) (going : List Generation) (stopped : Stopped) → IsAtWork d shows w going → map (λ (life : Life). life.generation) (cut_in cut) ≡ going → All (HandsOn d w.queue.0 w.served.slot.server.0 w.desk) (cut_in cut) → All (IsCut w.name w.served.slot.server.0 (theirs w.desk.caller.work)) (cut_in cut)
+  pub halts_at : (w : ServerWorker L T) (cut : Option LifeState) (going : List Generation) (stopped : Stopped) → IsAtWork d shows w going → map (λ (life : LifeState). life.generation) (cut_in cut) ≡ going → All (HandsOn d w.queue.0 w.served.slot.server.0 w.desk) (cut_in cut) → All (IsCut w.name w.served.slot.server.0 (theirs w.desk.caller.work)) (cut_in cut)
       → IsStopAt w.desk stopped → HasEnded d shows (Some stopped) (record w { cut = cut })
   halts_at w cut going stopped at is took off at_end =
       halts (record w { cut = cut }) stopped at.is at.serving at.named_so (ap (λ (l : List Generation). map (λ (over : Ending). over.life.generation) w.served.lives.items ++ l) is ∙ at.lived.are)
@@ -262,7 +261,7 @@ module _ {L T : Type 0} {d : Domain} {shows : T → StarterShows} where
         idle = at.serving.idle;
         hand = subst (λ h. IfSome h (IsRight d.cells)) (sym hand) tt;
         shown = record {
-          lives_are = ap (λ (o : Option Life). map (λ (over : Ending). over.life.generation) w.served.lives.items ++ map (λ (life : Life). life.generation) (cut_in o)) at.cut ∙ at.lived.are;
+          lives_are = ap (λ (o : Option LifeState). map (λ (over : Ending). over.life.generation) w.served.lives.items ++ map (λ (life : LifeState). life.generation) (cut_in o)) at.cut ∙ at.lived.are;
           taken = none_cut (HandsOn d w.queue.0 w.served.slot.server.0 w.desk) (map (λ (over : Ending). over.life) w.served.lives.items) w.cut at.cut (lives_hand w.served.lives.items at.lived.each);
           cut_off = none_off (IsCut w.name w.served.slot.server.0 (theirs w.desk.caller.work)) w.cut at.cut;
           so_far = inl started;
@@ -312,16 +311,16 @@ module _ {L T : Type 0} {d : Domain} {shows : T → StarterShows} where
       halts_on (Some (Here (Worn stamp))) is = (is.0, ap (λ (desk : Desk). desk.caller.work.stamp.0) tells.rest ∙ is.1)
 
   -- a life that goes on is cut
-  pub cut_ends : (w other : ServerWorker L T) (life : Life) (stopped : Stopped) → IsAtWork d shows w (life.generation ∷ []) → other ≡ record w { cut = Some (cut_short life) } → HandsOn d w.queue.0 w.served.slot.server.0 w.desk life → IsCut w.name w.served.slot.server.0 (theirs w.desk.caller.work) (cut_short life) → IsStopAt w.desk stopped
+  pub cut_ends : (w other : ServerWorker L T) (life : LifeState) (stopped : Stopped) → IsAtWork d shows w (life.generation ∷ []) → other ≡ record w { cut = Some (cut_short life) } → HandsOn d w.queue.0 w.served.slot.server.0 w.desk life → IsCut w.name w.served.slot.server.0 (theirs w.desk.caller.work) (cut_short life) → IsStopAt w.desk stopped
       → HasEnded d shows (Some stopped) other
   cut_ends w other life stopped at rest hands off stop =
-      let Hands : Life → Type 0 = HandsOn d w.queue.0 w.served.slot.server.0 w.desk in
+      let Hands : LifeState → Type 0 = HandsOn d w.queue.0 w.served.slot.server.0 w.desk in
       let still : Hands (cut_short life) = record { taken = hands.taken; handed = hands.handed } in
-      let Off : Life → Type 0 = IsCut w.name w.served.slot.server.0 (theirs w.desk.caller.work) in
+      let Off : LifeState → Type 0 = IsCut w.name w.served.slot.server.0 (theirs w.desk.caller.work) in
       subst (HasEnded d shows (Some stopped)) (sym rest) (halts_at w (Some (cut_short life)) (life.generation ∷ []) stopped at refl (All-cons Hands (cut_short life) [] still (All-nil Hands)) (All-cons Off (cut_short life) [] off (All-nil Off)) stop)
 
   -- somebody is told
-  pub in_told : (w : ServerWorker L T) (desk' : Desk) (doing : Doing) (turn : Turn) (n : ℕ) (life : Life) {closing : Option Closing} → Tells d closing w.desk desk' → IsIn d shows doing turn n life w → IsIn d shows doing turn n life (at_desk w w.served.slot desk')
+  pub in_told : (w : ServerWorker L T) (desk' : Desk) (doing : Doing) (turn : Turn) (n : ℕ) (life : LifeState) {closing : Option Closing} → Tells d closing w.desk desk' → IsIn d shows doing turn n life w → IsIn d shows doing turn n life (at_desk w w.served.slot desk')
   in_told w desk' doing turn n life {closing} tells is = in_on w w.served.slot desk' doing turn n life (record { steps = told_steps tells; serving = serving_told tells is.at.serving; server = refl; made = refl; gone = refl }) refl (tells_calm w.desk desk' tells) is
 
   pub off_told : (w : ServerWorker L T) (desk' : Desk) {closing : Option Closing} → Tells d closing w.desk desk' → IsOff d shows w → IsOff d shows (at_desk w w.served.slot desk')
@@ -350,7 +349,7 @@ module _ {L T : Type 0} {d : Domain} {shows : T → StarterShows} where
   may_be w b off tells = let floor = off.at.floor in sym (tells (last_by_floor w.served.slot w.desk.caller.work off.at.serving.stands.tables 0 (omega (arith, floor))))
 
   -- its first start is counted
-  pub in_counted : {doing : Doing} {turn : Turn} {n : ℕ} {life : Life} (w other : ServerWorker L T) → other ≡ record w { counted = other.counted } → IsIn d shows doing turn n life w → IsIn d shows doing turn n life other
+  pub in_counted : {doing : Doing} {turn : Turn} {n : ℕ} {life : LifeState} (w other : ServerWorker L T) → other ≡ record w { counted = other.counted } → IsIn d shows doing turn n life w → IsIn d shows doing turn n life other
   in_counted {doing} {turn} {n} {life} w other rest is = subst (IsIn d shows doing turn n life) (sym rest) (record {
     at = record { is = is.at.is; serving = is.at.serving; named_so = is.at.named_so; started = is.at.started; lived = is.at.lived; floor = is.at.floor; left = is.at.left; cut = is.at.cut; told = is.at.told };
     last = is.last;
@@ -378,7 +377,7 @@ module _ {L T : Type 0} {d : Domain} where
   }
 
   -- a life is cut off
-  pub goes_cut : (w old other : ServerWorker L T) {cut : Option Life} → other ≡ record w { cut = cut } → Goes d old w → Goes d old other
+  pub goes_cut : (w old other : ServerWorker L T) {cut : Option LifeState} → other ≡ record w { cut = cut } → Goes d old w → Goes d old other
   goes_cut w old other {cut} rest goes = subst (Goes d old) (sym rest) (record { leads = goes.leads; id = goes.id; clients = goes.clients; server = goes.server; name = goes.name; queue = goes.queue })
 
   -- its first start is counted

@@ -12,10 +12,10 @@ use Rattle.xa_desk.specs.xa_events.declared.event.Doing.{Doing}
 use Rattle.xa_desk.specs.xa_events.declared.event.Doing.TheVariants.{Off}
 use Rattle.xa_desk.specs.xa_events.Server.{start_in, starts, is_gone}
 use Rattle.xa_desk.specs.xa_stamp.declared.home.Stamped.{Stamped}
-use Rattle.xa_desk.specs.xa_pipe.Standing.{Standing as Life}
+use Rattle.xa_desk.specs.xa_pipe.Standing.{LifeState}
 use Rattle.xa_desk.specs.xa_restart.Rule.{IsRuleOf}
 use Rattle.xa_desk.specs.xa_worker.Work.{theirs}
-use Rattle.xa_desk.specs.xa_caller.Caller.{Standing as Caller}
+use Rattle.xa_desk.specs.xa_caller.Caller.{CallerState}
 use Rattle.xa_desk.specs.xa_server.declared.slot.ServerSlot.{ServerSlot}
 use Rattle.xa_desk.specs.xa_server.Doings.{InHand}
 use Rattle.xa_desk.specs.xa_server.Served.{StarterShows}
@@ -55,13 +55,13 @@ server_some {d} {queue} {slot} {desk} serving =
 -- ---- whoever was told was told behind an end
 
 pub swept_last : {queue : ℕ} {closing : Closing} {old new : Desk} → Sweeps queue closing old new → TellsLast old → TellsLast new
-swept_last {queue} {closing} {old} {new} sweeps = push_behind old new ⊤ ⊤ (record { stamp = sweeps.stamp; event = Sweep (record { request = sweeps.request; queue = record { 0 = queue } }) }) (ap (λ (c : Caller). c.work.own) sweeps.noted) (ap (λ (c : Caller). c.seat) sweeps.noted) tt
+swept_last {queue} {closing} {old} {new} sweeps = push_behind old new ⊤ ⊤ (record { stamp = sweeps.stamp; event = Sweep (record { request = sweeps.request; queue = record { 0 = queue } }) }) (ap (λ (c : CallerState). c.work.own) sweeps.noted) (ap (λ (c : CallerState). c.seat) sweeps.noted) tt
 
 pub seen_last : (old new : Desk) → Sees old.caller new.caller → TellsLast old → TellsLast new
-seen_last old new sees = still_behind old new ⊤ (ap (λ (c : Caller). c.work.own) sees.1) (ap (λ (c : Caller). c.seat) sees.1)
+seen_last old new sees = still_behind old new ⊤ (ap (λ (c : CallerState). c.work.own) sees.1) (ap (λ (c : CallerState). c.seat) sees.1)
 
 pub domain_seat : {old new : Desk} → OfDomain old new → new.caller.seat ≡ old.caller.seat
-domain_seat of = ap (λ (c : Caller). c.seat) of.rest
+domain_seat of = ap (λ (c : CallerState). c.seat) of.rest
 
 -- ---- as it leaves its queue
 
@@ -70,7 +70,7 @@ only_gone slot slot' b is = is ∙ ap (λ (x : Bool). record slot { gone = x }) 
 
 module _ {d : Domain} {queue : ℕ} {slot slot' : ServerSlot} {old new : Desk} (leads : Leads d old new) (serving : IsServing d queue slot old) where
   pub left_seat : (last : Bool) → LeavesAs d queue (Ok last) slot slot' old new → new.caller.seat ≡ old.caller.seat
-  left_seat last leaves = ap (λ (c : Caller). c.seat) leaves.1.2
+  left_seat last leaves = ap (λ (c : CallerState). c.seat) leaves.1.2
 
   pub left_retires : (last : Bool) → LeavesAs d queue (Ok last) slot slot' old new → Retires d slot slot' old new
   left_retires last leaves = record {
@@ -78,7 +78,7 @@ module _ {d : Domain} {queue : ℕ} {slot slot' : ServerSlot} {old new : Desk} (
     gone = All-cons (λ (e : Event). e ≡ Gone slot.server) (Gone slot.server) [] refl (All-nil (λ (e : Event). e ≡ Gone slot.server));
     steps = off_steps leaves.1.0 (Gone slot.server) leads (number_of serving) leaves.1.2;
     slot_is = only_gone slot slot' true leaves.0;
-    idle = ap (λ (c : Caller). c.phase) leaves.1.2 ∙ serving.idle;
+    idle = ap (λ (c : CallerState). c.phase) leaves.1.2 ∙ serving.idle;
     told = λ told. told_last ⊥ new (leads_behind old new leads (left_seat last leaves) told);
   }
 
@@ -88,14 +88,14 @@ module _ {d : Domain} {queue : ℕ} {slot slot' : ServerSlot} {old new : Desk} (
     gone = All-nil (λ (e : Event). e ≡ Gone slot.server);
     steps = seen_steps leads leaves.1.caller;
     slot_is = only_gone slot slot' slot.gone leaves.0;
-    idle = ap (λ (c : Caller). c.phase) leaves.1.caller.1 ∙ serving.idle;
-    told = λ told. told_last ⊥ new (leads_behind old new leads (ap (λ (c : Caller). c.seat) leaves.1.caller.1) told);
+    idle = ap (λ (c : CallerState). c.phase) leaves.1.caller.1 ∙ serving.idle;
+    told = λ told. told_last ⊥ new (leads_behind old new leads (ap (λ (c : CallerState). c.seat) leaves.1.caller.1) told);
   }
 
   pub left_latest : (last : Bool) → LeavesAs d queue (Ok last) slot slot' old new → HasStamp new.caller.work.own new.caller.work.stamp
   left_latest last leaves =
       let x : Stamped = record { stamp = leaves.1.0; event = Gone slot.server } in
-      (x, subst (λ (l : List Stamped). Contains l x) (sym {A = List Stamped} (ap (λ (c : Caller). c.work.own) leaves.1.2)) (Contains-push old.caller.work.own x), sym (ap (λ (c : Caller). c.work.stamp) leaves.1.2))
+      (x, subst (λ (l : List Stamped). Contains l x) (sym {A = List Stamped} (ap (λ (c : CallerState). c.work.own) leaves.1.2)) (Contains-push old.caller.work.own x), sym (ap (λ (c : CallerState). c.work.stamp) leaves.1.2))
 
   pub left_gone : (last : Bool) → LeavesAs d queue (Ok last) slot slot' old new → is_gone slot.server.0 (theirs new.caller.work) ≡ true
   unfolding is_gone
@@ -152,7 +152,7 @@ module _ {L T : Type 0} {d : Domain} {shows : T → StarterShows} where
       let failed : failed_starts s (theirs desk'.caller.work) ≡ failed_starts s own = ap (failed_starts s) steps.own ∙ failed_same s 0 retires.more own (its 0) in
       let started : HasStarted w.name (length (starts s (theirs desk'.caller.work))) (failed_starts s (theirs desk'.caller.work)) (shows w.served.starter) = started_on count failed refl off.at.started in
       let shown : ServerShows d w.name w.queue.0 s desk' w.served.lives.items (cut_in w.cut) (shows w.served.starter) (why_of r ≡ None) = record {
-        lives_are = ap (λ (o : Option Life). map (λ over. over.life.generation) w.served.lives.items ++ map (λ (life : Life). life.generation) (cut_in o)) off.at.cut ∙ lived.are;
+        lives_are = ap (λ (o : Option LifeState). map (λ over. over.life.generation) w.served.lives.items ++ map (λ (life : LifeState). life.generation) (cut_in o)) off.at.cut ∙ lived.are;
         taken = none_cut (HandsOn d w.queue.0 s desk') (map (λ over. over.life) w.served.lives.items) w.cut off.at.cut (lives_hand w.served.lives.items lived.each);
         cut_off = none_off (IsCut w.name s (theirs desk'.caller.work)) w.cut off.at.cut;
         so_far = inl started;

@@ -27,9 +27,9 @@ use Rattle.xa_desk.specs.xa_board.declared.reader.Reader.{Reader}
 use Rattle.xa_desk.specs.xa_queue.declared.entry.Entry.{Entry}
 use Rattle.xa_desk.specs.xa_queue.declared.queue.Refusal.{Refusal}
 use Rattle.xa_desk.specs.xa_queue.declared.queue.Refusal.TheVariants as refusals
-use Rattle.xa_desk.specs.xa_worker.Work.{Standing as Working}
+use Rattle.xa_desk.specs.xa_worker.Work.{WorkState}
 use Rattle.xa_desk.specs.xa_worker.declared.work.Halt.{Halt}
-use Rattle.xa_desk.specs.xa_caller.Caller.{Standing as Caller, AreRowsOf}
+use Rattle.xa_desk.specs.xa_caller.Caller.{CallerState, AreRowsOf}
 use Rattle.xa_desk.specs.xa_caller.Drafts.{Cargo}
 use Rattle.xa_desk.proofs.xa_caller.Next.{row-service}
 use Rattle.xa_desk.specs.xa_server.declared.closing.Closing.{Closing}
@@ -79,14 +79,14 @@ module _ {d : Domain} {queue : ℕ} {slot slot' : ServerSlot} {old new : Desk} w
           its = is_its slot.server.0 (life_in slot.doing).0 slot.server.0 (life_in slot.doing).0 refl refl;
           idle = ap (λ (s : ServerSlot). s.doing) finishes.left ∙ ap (λ (s : ServerSlot). s.doing) ends.left ∙ idle (life_in slot.doing);
           stamp = finishes.stamp;
-          noted = ap (λ (w : Working). w.own) ends.noted.made;
+          noted = ap (λ (w : WorkState). w.own) ends.noted.made;
           seat = seat;
         },
         refl,
         refl,
         refl,
         (let next = ends.noted.next in omega (arith, next)),
-        ap (λ (w : Working). w.own) ends.noted.made,
+        ap (λ (w : WorkState). w.own) ends.noted.made,
       )
 
   -- the request went on
@@ -94,7 +94,7 @@ module _ {d : Domain} {queue : ℕ} {slot slot' : ServerSlot} {old new : Desk} w
   forward_done entry event stamp version passing leads serving goes =
       let number = number_of passing.serving in
       let f = forwarded_by slot entry.request entry.cargo.invocation.hop old.reader.found.version passing.row old.caller.priority entry.cargo.invocation.payload in
-      let work = ap (λ (c : Caller). c.work) goes.noted in
+      let work = ap (λ (c : CallerState). c.work) goes.noted in
       subst (λ (e : Event). IsDoneBy d queue e slot slot' old new) (sym passing.event_is) (record {
         serves = record {
           steps = one_steps stamp (Forward f) old.caller.work.room leads number (work ∙ ap (λ (e : Event). record old.caller.work { stamp = stamp; own = old.caller.work.own ++ record { stamp = stamp; event = e } ∷ [] }) passing.event_is);
@@ -106,8 +106,8 @@ module _ {d : Domain} {queue : ℕ} {slot slot' : ServerSlot} {old new : Desk} w
         its = is_its slot.server.0 (life_in slot.doing).0 slot.server.0 (life_in slot.doing).0 refl refl;
         idle = ap (λ (s : ServerSlot). s.doing) goes.left;
         stamp = stamp;
-        noted = ap (λ (w : Working). w.own) work ∙ ap (λ (e : Event). old.caller.work.own ++ record { stamp = stamp; event = e } ∷ []) passing.event_is;
-        seat = ap (λ (c : Caller). c.seat) goes.noted;
+        noted = ap (λ (w : WorkState). w.own) work ∙ ap (λ (e : Event). old.caller.work.own ++ record { stamp = stamp; event = e } ∷ []) passing.event_is;
+        seat = ap (λ (c : CallerState). c.seat) goes.noted;
       })
 
 -- as the forward says
@@ -126,11 +126,11 @@ module _ {d : Domain} where
   pub back_seen : {old new : Desk} → Leads d old new → Sees old.caller new.caller → new.board ≡ old.board → new.reader ≡ old.reader → IsBack d old new
   back_seen {old} {new} leads sees board reader = record {
     steps = seen_steps leads sees;
-    own = ap (λ (c : Caller). c.work.own) sees.1;
-    seat = ap (λ (c : Caller). c.seat) sees.1;
+    own = ap (λ (c : CallerState). c.work.own) sees.1;
+    seat = ap (λ (c : CallerState). c.seat) sees.1;
     reader = reader;
     found = λ service has.
-        let least = ap (λ (c : Caller). c.least) sees.1 in
+        let least = ap (λ (c : CallerState). c.least) sees.1 in
         let recent = has.recent in
         subst (λ (f : FoundRows). HasFound d service f new) (sym (ap (λ (r : Reader). r.found) reader)) (found_stays d old new leads service old.reader.found board (omega (arith, least, recent)) has);
   }
@@ -271,7 +271,7 @@ still_out {d} entry back event slot slot' desk same is passing =
 
 -- ---- what a forward of the slot comes to, by the way that it goes
 
-module _ (version : ℕ) (payload : Data) (slot slot' : ServerSlot) (old new : Caller) where
+module _ (version : ℕ) (payload : Data) (slot slot' : ServerSlot) (old new : CallerState) where
   pub failed_as : (way : Result Row ℕ) (closing : Closing) → ForwardsAs version payload way (Failed closing) slot' slot new old → (named : ℕ) × (way ≡ Err named) × Fails named closing slot' slot new old
   failed_as (Ok row) closing is = absurd is
   failed_as (Err named) closing is = (named, refl, is)
@@ -300,14 +300,14 @@ way_row setup service payload hop found row is = by (is_name service) (is_sound 
     by true true false first so = absurd (cc so)
 
 pub same_desk : (old new : Desk) → new ≡ record old { caller = new.caller } → new.caller ≡ old.caller → old ≡ new
-same_desk old new rest same = sym (rest ∙ ap (λ (c : Caller). record old { caller = c }) same)
+same_desk old new rest same = sym (rest ∙ ap (λ (c : CallerState). record old { caller = c }) same)
 
 -- it is out, with nothing noted
-pub out_same : {version : ℕ} {row : Row} {payload : Data} {entry : Entry Cargo} {event : Event} {slot slot' : ServerSlot} {new old : Caller} → PassesOut version row payload entry event slot' slot new old → SameServer slot slot'
+pub out_same : {version : ℕ} {row : Row} {payload : Data} {entry : Entry Cargo} {event : Event} {slot slot' : ServerSlot} {new old : CallerState} → PassesOut version row payload entry event slot' slot new old → SameServer slot slot'
 out_same out = record { server = ap (λ (s : ServerSlot). s.server) out.left; made = ap (λ (s : ServerSlot). s.made) out.left; gone = ap (λ (s : ServerSlot). s.gone) out.left; does = ap (λ (s : ServerSlot). s.doing) out.left }
 
 pub out_steps : {d : Domain} {a b : Desk} → Leads d a b → b.caller ≡ a.caller → Steps d [] a b
-out_steps leads same = still_steps leads (ap (λ (c : Caller). c.work.id) same) (ap (λ (c : Caller). c.work.clients) same) (ap (λ (c : Caller). c.work.own) same)
+out_steps leads same = still_steps leads (ap (λ (c : CallerState). c.work.id) same) (ap (λ (c : CallerState). c.work.clients) same) (ap (λ (c : CallerState). c.work.own) same)
 
 module _ {d : Domain} {queue : ℕ} where
   pub if_taken : {t : Taken} {old new : Desk} → ((entry : Entry Cargo) → IsTaken d queue t old entry → IsTaken d queue t new entry) → (hand : Option (Entry Cargo)) → IfSome hand (IsTaken d queue t old) → IfSome hand (IsTaken d queue t new)

@@ -7,7 +7,7 @@ use Rattle.xa_desk.specs.xa_events.Caller.{ticks, tick_floor}
 use Rattle.xa_desk.specs.xa_events.Local.{worker_events}
 use Rattle.xa_desk.specs.xa_stamp.declared.home.Stamped.{Stamped}
 use Rattle.xa_desk.specs.xa_worker.Seen.{past_in}
-use Rattle.xa_desk.specs.xa_restart.Rule.{Standing as Restarts, may_start_by}
+use Rattle.xa_desk.specs.xa_restart.Rule.{RestartState, may_start_by}
 use Rattle.xa_desk.specs.xa_worker.Work.{theirs}
 use Rattle.xa_desk.specs.xa_pipe.Standing.{Ending}
 use Rattle.xa_desk.specs.xa_pipe.Following.{is_of}
@@ -26,7 +26,7 @@ first_floor : (clients caller : ℕ) (own : List Event) → own ≡ [] → tick_
 unfolding ticks
 first_floor clients caller own none = ap (tick_floor clients caller) none
 
-first_may : (r : Restarts) → r.starts ≡ [] → may_start_by r 0 ≡ true
+first_may : (r : RestartState) → r.starts ≡ [] → may_start_by r 0 ≡ true
 first_may r none = ap (λ (s : List ℕ). may_start_by (record r { starts = s }) 0) none
 
 none_noted : (clients caller : ℕ) (own : List Stamped) → own ≡ [] → worker_events clients caller (past_in own) ≡ []

@@ -13,12 +13,12 @@ use Rattle.xa_desk.specs.xa_events.Words.{AtEach, count, greatest}
 use Rattle.xa_desk.specs.xa_events.Caller.{tick_in, ticks, tick_floor}
 use Rattle.xa_desk.specs.xa_link.Starts.{AsksFor}
 use Rattle.xa_desk.specs.xa_link.Told.{Rose}
-use Rattle.xa_desk.specs.xa_worker.Work.{Standing as Working, theirs}
+use Rattle.xa_desk.specs.xa_worker.Work.{WorkState, theirs}
 use Rattle.xa_desk.specs.xa_worker.declared.work.Halt.{Halt}
 use Rattle.xa_desk.specs.xa_pipe.declared.turn.Turn.TheVariants.{AwaitsReady}
 use Rattle.xa_desk.specs.xa_pipe.Frames.{is_take_in}
 use Rattle.xa_desk.specs.xa_pipe.Life.{Occurrence, stops_life, came_at, came_in, finishes_in}
-use Rattle.xa_desk.specs.xa_pipe.Standing.{Standing as Life, Ending}
+use Rattle.xa_desk.specs.xa_pipe.Standing.{LifeState, Ending}
 use Rattle.xa_desk.specs.xa_pipe.Following.{is_of, Follows}
 use Rattle.xa_desk.proofs.xa_pipe.Followed.{follows_begun}
 use Rattle.xa_desk.specs.xa_server.declared.slot.ServerSlot.{ServerSlot}
@@ -117,14 +117,14 @@ module _ {L T : Type 0} {d : Domain} {shows : T → StarterShows} (w : ServerWor
 
   -- ---- it starts
 
-  pub starts_in : (life : Life) → Begins w.name 0 life served'.slot w.served.slot desk'.caller.work w.desk.caller.work → AsksFor (shows w.served.starter).asked (shows served'.starter).asked w.name (next_life w.served.slot) → (shows served'.starter).faults ≡ (shows w.served.starter).faults
+  pub starts_in : (life : LifeState) → Begins w.name 0 life served'.slot w.served.slot desk'.caller.work w.desk.caller.work → AsksFor (shows w.served.starter).asked (shows served'.starter).asked w.name (next_life w.served.slot) → (shows served'.starter).faults ≡ (shows w.served.starter).faults
       → vec_len served'.lives < vec_capacity served'.lives → IsIn d shows (Idle life.generation) AwaitsReady 0 life (served_at w served' desk')
   starts_in life begins asks faults room =
       let starts = begins.starts in
       let b : Started = record { server = w.served.slot.server; generation = next_life w.served.slot; tick = 0 } in
       let steps : Steps d (Start b ∷ []) w.desk desk' = noted_steps starts.stamp (Start b) _ leads (number_of off.at.serving) starts.noted in
       let g : ℕ = w.served.slot.made + 1 in
-      let gen : life.generation ≡ next_life w.served.slot = ap (λ (l : Life). l.generation) begins.is in
+      let gen : life.generation ≡ next_life w.served.slot = ap (λ (l : LifeState). l.generation) begins.is in
       let here : (b.server.0 == w.served.slot.server.0) ≡ true = eq-eqb w.served.slot.server.0 w.served.slot.server.0 refl in
       let unborn : (h : ℕ) → w.served.slot.made < h → All (λ (e : Event). is_of w.served.slot.server.0 h e ≡ false) (theirs desk'.caller.work) =
       λ h above. subst (All (λ (e : Event). is_of w.served.slot.server.0 h e ≡ false)) (sym {A = List Event} steps.own) (All-cons (λ (e : Event). is_of w.served.slot.server.0 h e ≡ false) (Start b) (theirs w.desk.caller.work) refl (off.at.lived.unborn h above)) in
@@ -139,7 +139,7 @@ module _ {L T : Type 0} {d : Domain} {shows : T → StarterShows} (w : ServerWor
         unborn = λ h above. unborn h (omega (arith, above));
       } in
       let made : served'.slot.made ≡ g = ap (λ (s : ServerSlot). s.made) starts.left in
-      let follows : Follows d.setup (ShowsReason d desk') life (theirs desk'.caller.work) = subst (λ (l : Life). Follows d.setup (ShowsReason d desk') l (theirs desk'.caller.work)) (sym begins.is)
+      let follows : Follows d.setup (ShowsReason d desk') life (theirs desk'.caller.work) = subst (λ (l : LifeState). Follows d.setup (ShowsReason d desk') l (theirs desk'.caller.work)) (sym begins.is)
       (follows_begun d.setup w.name w.served.slot.server (next_life w.served.slot) life.link (theirs desk'.caller.work)
       (counts_none (stops_life w.served.slot.server.0 g) (theirs desk'.caller.work) (All-weaker (λ (e : Event). is_of w.served.slot.server.0 g e ≡ false) (λ (e : Event). stops_life w.served.slot.server.0 g e ≡ false) (stops_none w.served.slot.server.0 g) (theirs desk'.caller.work) none))
       (counts_none (is_take_in w.served.slot.server.0 g) (theirs desk'.caller.work) (All-weaker (λ (e : Event). is_of w.served.slot.server.0 g e ≡ false) (λ (e : Event). is_take_in w.served.slot.server.0 g e ≡ false) (takes_none w.served.slot.server.0 g) (theirs desk'.caller.work) none))
@@ -147,24 +147,24 @@ module _ {L T : Type 0} {d : Domain} {shows : T → StarterShows} (w : ServerWor
       record {
         at = work_behind steps (started_more w.name w.served.slot.made (failed_starts w.served.slot.server.0 (theirs w.desk.caller.work)) (shows served'.starter) (shows w.served.starter) asks faults off.at.started) made (ap (failed_starts w.served.slot.server.0) steps.own) lived
             (floor_start w.desk.caller.work.clients w.desk.caller.work.id.0 (Start b) (theirs w.desk.caller.work) (either _) off.at.floor) (ap (λ (s : ServerSlot). s.server) starts.left) (ap (λ (s : ServerSlot). s.gone) starts.left)
-            (start_calm w.desk desk' (record { stamp = starts.stamp; event = Start b }) (ap (λ (v : Working). v.own) starts.noted.made) seat tt refl off.at.told);
+            (start_calm w.desk desk' (record { stamp = starts.stamp; event = Start b }) (ap (λ (v : WorkState). v.own) starts.noted.made) seat tt refl off.at.told);
         last = record {
-          server = ap (λ (l : Life). l.server) begins.is ∙ ap (λ (s : ServerSlot). s.server) (sym starts.left);
-          named = ap (λ (l : Life). l.name) begins.is;
+          server = ap (λ (l : LifeState). l.server) begins.is ∙ ap (λ (s : ServerSlot). s.server) (sym starts.left);
+          named = ap (λ (l : LifeState). l.name) begins.is;
           number = ap (λ h. h.0) gen ∙ sym made;
         };
         going = record {
           follows = follows;
-          handed = subst (λ (l : Life). AtEach (IsHanded l.server.0 l.generation.0 l.asked (IsSentFor d w.queue.0 desk')) (theirs desk'.caller.work)) (sym begins.is)
+          handed = subst (λ (l : LifeState). AtEach (IsHanded l.server.0 l.generation.0 l.asked (IsSentFor d w.queue.0 desk')) (theirs desk'.caller.work)) (sym begins.is)
               (subst (AtEach (IsHanded w.served.slot.server.0 g [] (IsSentFor d w.queue.0 desk'))) (append-nil (theirs desk'.caller.work)) (handed_more w.served.slot.server.0 g [] (IsSentFor d w.queue.0 desk') (theirs desk'.caller.work) [] none tt));
         };
         does = ap (λ (s : ServerSlot). s.doing) starts.left ∙ ap Idle (sym gen);
-        turns = ap (λ (l : Life). l.turn) begins.is;
-        asked = ap (λ (l : Life). length l.asked) begins.is ∙ ap (λ (l : Life). length (finishes_in l.said) + 0) (sym begins.is);
+        turns = ap (λ (l : LifeState). l.turn) begins.is;
+        asked = ap (λ (l : LifeState). length l.asked) begins.is ∙ ap (λ (l : LifeState). length (finishes_in l.said) + 0) (sym begins.is);
         room = room;
       }
 
-  pub starts_goes : (life : Life) → Begins w.name 0 life served'.slot w.served.slot desk'.caller.work w.desk.caller.work → Goes d w (served_at w served' desk')
+  pub starts_goes : (life : LifeState) → Begins w.name 0 life served'.slot w.served.slot desk'.caller.work w.desk.caller.work → Goes d w (served_at w served' desk')
   starts_goes life begins =
       let b : Started = record { server = w.served.slot.server; generation = next_life w.served.slot; tick = 0 } in
       goes_by w (served_at w served' desk') (Start b ∷ []) (noted_steps begins.starts.stamp (Start b) _ leads (number_of off.at.serving) begins.starts.noted) (ap (λ (s : ServerSlot). s.server) begins.starts.left) refl refl
@@ -178,7 +178,7 @@ module _ {L T : Type 0} {d : Domain} {shows : T → StarterShows} (w : ServerWor
       let steps : Steps d (StartFailed b ∷ []) w.desk desk' = noted_steps fails.stamp (StartFailed b) _ leads (number_of off.at.serving) fails.noted in
       let g : ℕ = w.served.slot.made + 1 in
       let here : (b.server.0 == w.served.slot.server.0) ≡ true = eq-eqb w.served.slot.server.0 w.served.slot.server.0 refl in
-      let told : ToldBefore desk' = push_behind w.desk desk' ⊥ ⊥ (record { stamp = fails.stamp; event = StartFailed b }) (ap (λ (v : Working). v.own) fails.noted.made) seat tt off.at.told in (
+      let told : ToldBefore desk' = push_behind w.desk desk' ⊥ ⊥ (record { stamp = fails.stamp; event = StartFailed b }) (ap (λ (v : WorkState). v.own) fails.noted.made) seat tt off.at.told in (
         record {
           at = work_behind {going = []} steps (failed_more w.name w.served.slot.made (failed_starts w.served.slot.server.0 (theirs w.desk.caller.work)) (shows served'.starter) (shows w.served.starter) asks rose off.at.started) (ap (λ (s : ServerSlot). s.made) fails.left)
               (ap (failed_starts w.served.slot.server.0) steps.own ∙ ap (λ (y : Bool). cond y (failed_starts w.served.slot.server.0 (theirs w.desk.caller.work) + 1) (failed_starts w.served.slot.server.0 (theirs w.desk.caller.work))) here)
@@ -202,7 +202,7 @@ module _ {L T : Type 0} {d : Domain} {shows : T → StarterShows} (w : ServerWor
       let still = halted_steps n halt leads noted in
       let own_same : theirs desk'.caller.work ≡ theirs w.desk.caller.work = still.own in
       halts (served_at w served' desk') (Here halt) leads.desk serving (name ∙ off.at.named_so)
-      (ap (λ (l : List Ending). map (λ (over : Ending). over.life.generation) l ++ map (λ (life : Life). life.generation) (cut_in w.cut)) lives ∙ ap (λ (o : Option Life). map (λ (over : Ending). over.life.generation) w.served.lives.items ++ map (λ (life : Life). life.generation) (cut_in o)) off.at.cut ∙ off.at.lived.are
+      (ap (λ (l : List Ending). map (λ (over : Ending). over.life.generation) l ++ map (λ (life : LifeState). life.generation) (cut_in w.cut)) lives ∙ ap (λ (o : Option LifeState). map (λ (over : Ending). over.life.generation) w.served.lives.items ++ map (λ (life : LifeState). life.generation) (cut_in o)) off.at.cut ∙ off.at.lived.are
       ∙ sym (ap (λ (s : ServerSlot). lives_in s.server.0 (theirs desk'.caller.work)) same ∙ ap (lives_in w.served.slot.server.0) own_same))
       (subst (λ (s : ServerSlot). All (HandsOn d w.queue.0 s.server.0 desk') (map (λ (over : Ending). over.life) served'.lives.items ++ cut_in w.cut)) (sym same)
       (none_cut (HandsOn d w.queue.0 w.served.slot.server.0 desk') (map (λ (over : Ending). over.life) served'.lives.items) w.cut off.at.cut

@@ -16,9 +16,9 @@ use Rattle.xa_desk.specs.xa_worker.Seen.{past_in}
 use Rattle.xa_desk.specs.xa_worker.Crew.{IsOfDomain}
 use Rattle.xa_desk.proofs.Falling.{gave_on}
 use Rattle.xa_desk.proofs.xa_worker.Lists.{filter-none, past_in-append, past_in-filter}
-use Rattle.xa_desk.specs.xa_worker.Work.{Standing as Working, theirs}
+use Rattle.xa_desk.specs.xa_worker.Work.{WorkState, theirs}
 use Rattle.xa_desk.proofs.xa_worker.Noting.{theirs-more, not_theirs}
-use Rattle.xa_desk.specs.xa_caller.Caller.{Standing as Caller}
+use Rattle.xa_desk.specs.xa_caller.Caller.{CallerState}
 use Rattle.xa_desk.specs.xa_caller.Serving.{noted_off}
 use Rattle.xa_desk.specs.xa_server.declared.slot.ServerSlot.{ServerSlot}
 use Rattle.xa_desk.specs.xa_server.Doings.{life_in}
@@ -34,13 +34,18 @@ use Rattle.xa_desk.specs.declared.desk.Desk.{Desk}
 use Rattle.xa_desk.specs.declared.serving.Took.{Took}
 use Rattle.xa_desk.specs.declared.serving.Took.TheVariants as takes
 use Rattle.xa_desk.specs.declared.stopped.Stopped.{Stopped}
+use Rattle.xa_desk.specs.declared.stopped.Stopped.TheVariants.{Here}
 use Rattle.xa_desk.specs.xa_held.Notes.{is_down_in}
 use Rattle.xa_desk.specs.Desks.{Leads, queue_page}
 use Rattle.xa_desk.specs.Serving.{Sees, TakesAs, OfDomain, IsServing, IsFallen, IsToTell}
 use Rattle.xa_desk.proofs.Leading.{leads_trans}
 use Rattle.xa_desk.specs.xa_server.declared.closing.Closing.{Closing}
 use Rattle.xa_desk.specs.Halting.{IsHaltAt, IsStopAt}
-use Rattle.xa_server_worker.specs.Steps.{Steps, Serves, Tells, Waits, TakesFrom, NextFrom, stop_by, OfDomainAt}
+use Rattle.xa_server_worker.specs.Steps.{Steps, Serves, Tells, Waits, TakesFrom, NextFrom, OfDomainAt}
+
+-- why the worker ends where the stamps did
+abbrev pub stop_by : Worn → Stopped
+stop_by worn = Here (WornOut worn.0)
 
 -- what it noted for the domain isn't its own
 none_theirs : (clients worker : ℕ) → 0 < worker → (more : List Stamped) → All (λ (x : Stamped). IsOfDomain x.event) more → worker_events clients worker (past_in more) ≡ []
@@ -61,12 +66,12 @@ not_empty (x ∷ own) rest some none = cc none
 
 pub halted_at : (old new : Desk) (n : ℕ) (halt : Halt) → HaltsWith n new.caller.work old.caller.work halt → IsHaltAt new halt
 halted_at old new n NoMemory same = tt
-halted_at old new n (WornOut last) worn = (worn.2, ap (λ (w : Working). w.stamp.0) worn.0 ∙ worn.1)
+halted_at old new n (WornOut last) worn = (worn.2, ap (λ (w : WorkState). w.stamp.0) worn.0 ∙ worn.1)
 
 -- nothing was noted then
 pub halted_own : (old new : Desk) (n : ℕ) (halt : Halt) → HaltsWith n new.caller.work old.caller.work halt → new.caller.work.own ≡ old.caller.work.own
-halted_own old new n NoMemory same = ap (λ (w : Working). w.own) same
-halted_own old new n (WornOut last) worn = ap (λ (w : Working). w.own) worn.0
+halted_own old new n NoMemory same = ap (λ (w : WorkState). w.own) same
+halted_own old new n (WornOut last) worn = ap (λ (w : WorkState). w.own) worn.0
 
 module _ {d : Domain} where
   -- ---- the worker's own events
@@ -86,8 +91,8 @@ module _ {d : Domain} where
       → new.caller.work ≡ record old.caller.work { stamp = stamp; own = old.caller.work.own ++ record { stamp = stamp; event = e } ∷ []; room = room } → Steps d (e ∷ []) old new
   one_steps {old} {new} stamp e room leads its made = record {
     leads = leads;
-    id = ap (λ (w : Working). w.id) made;
-    clients = ap (λ (w : Working). w.clients) made;
+    id = ap (λ (w : WorkState). w.id) made;
+    clients = ap (λ (w : WorkState). w.clients) made;
     own = ap theirs made ∙ theirs-more old.caller.work (record { stamp = stamp; event = e }) its;
   }
 
@@ -95,17 +100,17 @@ module _ {d : Domain} where
   noted_steps stamp e room leads its notes = one_steps stamp e _ leads its notes.made
 
   pub off_steps : {old new : Desk} (stamp : Stamp) (e : Event) → Leads d old new → worker_of old.caller.work.clients e ≡ old.caller.work.id.0 → new.caller ≡ noted_off stamp e old.caller → Steps d (e ∷ []) old new
-  off_steps {old} stamp e leads its caller = one_steps stamp e old.caller.work.room leads its (ap (λ (c : Caller). c.work) caller)
+  off_steps {old} stamp e leads its caller = one_steps stamp e old.caller.work.room leads its (ap (λ (c : CallerState). c.work) caller)
 
   pub seen_steps : {old new : Desk} → Leads d old new → Sees old.caller new.caller → Steps d [] old new
-  seen_steps leads sees = still_steps leads (ap (λ (c : Caller). c.work.id) sees.1) (ap (λ (c : Caller). c.work.clients) sees.1) (ap (λ (c : Caller). c.work.own) sees.1)
+  seen_steps leads sees = still_steps leads (ap (λ (c : CallerState). c.work.id) sees.1) (ap (λ (c : CallerState). c.work.clients) sees.1) (ap (λ (c : CallerState). c.work.own) sees.1)
 
   pub domain_steps : {old new : Desk} → Leads d old new → 0 < old.caller.work.id.0 → OfDomain old new → OfDomainAt d old new
   domain_steps {old} {new} leads some of =
-      let w : Working = old.caller.work in
+      let w : WorkState = old.caller.work in
       let ours : List Stamped → List Event = λ l. worker_events w.clients w.id.0 (past_in l) in
-      let id = ap (λ (c : Caller). c.work.id) of.rest in
-      let clients = ap (λ (c : Caller). c.work.clients) of.rest in
+      let id = ap (λ (c : CallerState). c.work.id) of.rest in
+      let clients = ap (λ (c : CallerState). c.work.clients) of.rest in
       record {
         steps = record {
           leads = leads;
@@ -115,7 +120,7 @@ module _ {d : Domain} where
               ∙ ap (filter (of_worker w.clients w.id.0)) (past_in-append w.own of.more) ∙ filter-append (of_worker w.clients w.id.0) (past_in of.more) (past_in w.own)
               ∙ ap (λ (l : List Event). l ++ ours w.own) (none_theirs w.clients w.id.0 some of.more of.theirs);
         };
-        idle = ap (λ (c : Caller). c.phase) of.rest;
+        idle = ap (λ (c : CallerState). c.phase) of.rest;
       }
 
   pub told_steps : {closing : Option Closing} {old new : Desk} → Tells d closing old new → Steps d [] old new
@@ -123,8 +128,8 @@ module _ {d : Domain} where
 
   -- nothing was noted at a halt
   pub halted_steps : {old new : Desk} (n : ℕ) (halt : Halt) → Leads d old new → HaltsWith n new.caller.work old.caller.work halt → Steps d [] old new
-  halted_steps {old} {new} n NoMemory leads same = still_steps leads (ap (λ (w : Working). w.id) same) (ap (λ (w : Working). w.clients) same) (halted_own old new n NoMemory same)
-  halted_steps {old} {new} n (WornOut last) leads worn = still_steps leads (ap (λ (w : Working). w.id) worn.0) (ap (λ (w : Working). w.clients) worn.0) (halted_own old new n (WornOut last) worn)
+  halted_steps {old} {new} n NoMemory leads same = still_steps leads (ap (λ (w : WorkState). w.id) same) (ap (λ (w : WorkState). w.clients) same) (halted_own old new n NoMemory same)
+  halted_steps {old} {new} n (WornOut last) leads worn = still_steps leads (ap (λ (w : WorkState). w.id) worn.0) (ap (λ (w : WorkState). w.clients) worn.0) (halted_own old new n (WornOut last) worn)
 
   pub still_serves : {queue : ℕ} {slot slot' : ServerSlot} {old new : Desk} → Steps d [] old new → IsServing d queue slot' new → slot' ≡ slot → Serves d queue [] slot slot' old new
   still_serves steps serving same = record { steps = steps; serving = serving; server = ap (λ (s : ServerSlot). s.server) same; made = ap (λ (s : ServerSlot). s.made) same; gone = ap (λ (s : ServerSlot). s.gone) same }
@@ -173,7 +178,7 @@ module _ {d : Domain} where
   domain_none leads = record { steps = record { leads = leads; id = refl; clients = refl; own = refl }; idle = refl }
 
   pub domain_seen : {a b : Desk} → Leads d a b → Sees a.caller b.caller → OfDomainAt d a b
-  domain_seen leads sees = record { steps = seen_steps leads sees; idle = ap (λ (c : Caller). c.phase) sees.1 }
+  domain_seen leads sees = record { steps = seen_steps leads sees; idle = ap (λ (c : CallerState). c.phase) sees.1 }
 
   pub id_kept : {a b : Desk} → OfDomainAt d a b → 0 < a.caller.work.id.0 → 0 < b.caller.work.id.0
   id_kept goes some = let same = ap (λ i. i.0) goes.steps.id in omega (arith, same, some)
@@ -190,7 +195,7 @@ module _ {d : Domain} where
     waits_none leads serving = record { serves = record { steps = record { leads = leads; id = refl; clients = refl; own = refl }; serving = serving; server = refl; made = refl; gone = refl }; same = refl; noted = refl; seat = refl }
 
     waits_same : {slot slot' : ServerSlot} {old new : Desk} → slot' ≡ slot → Leads d old new → Sees old.caller new.caller → IsServing d queue slot' new → Waits d queue slot slot' old new
-    waits_same same leads sees serving = record { serves = still_serves (seen_steps leads sees) serving same; same = same; noted = ap (λ (c : Caller). c.work.own) sees.1; seat = ap (λ (c : Caller). c.seat) sees.1 }
+    waits_same same leads sees serving = record { serves = still_serves (seen_steps leads sees) serving same; same = same; noted = ap (λ (c : CallerState). c.work.own) sees.1; seat = ap (λ (c : CallerState). c.seat) sees.1 }
 
     -- what a take comes to
     took_from : {slot slot' : ServerSlot} {old new : Desk} (took : Took) → Leads d old new → IsServing d queue slot old → IsServing d queue slot' new → TakesAs d queue (Ok took) slot slot' old new → TakesFrom d queue (Ok took) slot slot' old new
@@ -214,8 +219,8 @@ module _ {d : Domain} where
           server = refl;
           generation = refl;
           stamp = stamp;
-          noted = ap (λ (c : Caller). c.work.own) caller;
-          seat = ap (λ (c : Caller). c.seat) caller;
+          noted = ap (λ (c : CallerState). c.work.own) caller;
+          seat = ap (λ (c : CallerState). c.seat) caller;
         }
 
     pub takes_from : {slot slot' : ServerSlot} {old new : Desk} (r : Result Took Worn) (took : Took) → r ≡ Ok took → Leads d old new → IsServing d queue slot old → IsServing d queue slot' new → TakesAs d queue r slot slot' old new → TakesFrom d queue (Ok took) slot slot' old new

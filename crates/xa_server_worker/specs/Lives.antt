@@ -19,7 +19,7 @@ use Rattle.xa_desk.specs.xa_pipe.Frames.{is_of_life, is_take_in, invocation}
 use Rattle.xa_desk.specs.xa_pipe.Following.{HasStopped}
 use Rattle.xa_desk.specs.xa_pipe.Life.{stops_life}
 use Rattle.xa_desk.specs.xa_pipe.Pipe.{invoke_frame}
-use Rattle.xa_desk.specs.xa_pipe.Standing.{Standing as Life, IsCutOff, Ending, IsOver}
+use Rattle.xa_desk.specs.xa_pipe.Standing.{LifeState, IsCutOff, Ending, IsOver}
 use Rattle.xa_desk.specs.xa_server.Served.{StarterShows}
 use Rattle.xa_desk.specs.xa_worker.Work.{theirs}
 use Rattle.xa_desk.specs.declared.domain.Domain.{Domain}
@@ -67,7 +67,7 @@ HasStartedSoFar name n failed shown = HasStarted name n failed shown ⊎ HasStar
 -- ---- its INVOKEs
 
 -- the server took a request for each INVOKE that was due to its program in that life
-abbrev pub TookEach : ℕ → List Event → Life → Type 0
+abbrev pub TookEach : ℕ → List Event → LifeState → Type 0
 TookEach server own life = count (is_take_in server life.generation.0) own ≡ length life.asked
 
 -- a take of the life was handed on by the INVOKE at its place among these, with what its request was sent for
@@ -78,13 +78,13 @@ IsHanded server g asked IsSent (Take t) before = is_of_life server g t.server.0 
 IsHanded server g asked IsSent e before = Unit {0}
 
 -- each request that the server took in that life was handed on by an INVOKE, with what it was sent for last, and no other INVOKE was due
-pub record HandsOn (d : Domain) (queue server : ℕ) (desk : Desk) (life : Life) : Type 0 where
+pub record HandsOn (d : Domain) (queue server : ℕ) (desk : Desk) (life : LifeState) : Type 0 where
   pub taken : TookEach server (theirs desk.caller.work) life
   pub handed : AtEach (IsHanded server life.generation.0 life.asked (IsSentFor d queue desk)) (theirs desk.caller.work)
 
 -- a life that went on at a halt, of the server of that name and number, as it stood then: its link took the octets of the INVOKEs that were due, its
 -- program spoke in turn and was ended by force, and its end isn't among these events
-pub record IsCut (name : List ℕ) (server : ℕ) (own : List Event) (life : Life) : Type 0 where
+pub record IsCut (name : List ℕ) (server : ℕ) (own : List Event) (life : LifeState) : Type 0 where
   pub cut_off : IsCutOff life
   pub its : life.server.0 ≡ server
   pub named : life.name ≡ name
@@ -118,8 +118,8 @@ IsDone d queue server desk = ((was_shut_down server (theirs desk.caller.work) �
 -- all that the worker shows of its server in the end: which lives there were, of which the last may have been cut, that in each it handed on the requests
 -- that it took, how often its starter was asked, and that whoever was told was told behind the end of a life; where it came to its end, also how each life went, and
 -- how the server was done
-pub record ServerShows (d : Domain) (name : List ℕ) (queue server : ℕ) (desk : Desk) (lives : List Ending) (cut : List Life) (shown : StarterShows) (Whole : Type 0) : Type 0 where
-  pub lives_are : map (λ (over : Ending). over.life.generation) lives ++ map (λ (life : Life). life.generation) cut ≡ lives_in server (theirs desk.caller.work)
+pub record ServerShows (d : Domain) (name : List ℕ) (queue server : ℕ) (desk : Desk) (lives : List Ending) (cut : List LifeState) (shown : StarterShows) (Whole : Type 0) : Type 0 where
+  pub lives_are : map (λ (over : Ending). over.life.generation) lives ++ map (λ (life : LifeState). life.generation) cut ≡ lives_in server (theirs desk.caller.work)
   pub taken : All (HandsOn d queue server desk) (map (λ (over : Ending). over.life) lives ++ cut)
   pub cut_off : All (IsCut name server (theirs desk.caller.work)) cut
   pub so_far : HasStartedSoFar name (length (starts server (theirs desk.caller.work))) (failed_starts server (theirs desk.caller.work)) shown

@@ -20,7 +20,7 @@ use Rattle.xa_desk.specs.xa_pipe.declared.turn.Turn.TheVariants.{AwaitsInvoke}
 use Rattle.xa_desk.specs.xa_pipe.Frames.{is_of_life}
 use Rattle.xa_desk.specs.xa_pipe.declared.turn.Turn.{Turn}
 use Rattle.xa_desk.specs.xa_pipe.Life.{may_end, lost_by}
-use Rattle.xa_desk.specs.xa_pipe.Standing.{Standing as Life, Ending, returned}
+use Rattle.xa_desk.specs.xa_pipe.Standing.{LifeState, Ending, returned}
 use Rattle.xa_desk.specs.xa_pipe.Following.{is_of, Follows, Settled}
 use Rattle.xa_desk.specs.xa_server.declared.closing.Closing.{Closing}
 use Rattle.xa_desk.specs.xa_server.declared.slot.ServerSlot.{ServerSlot}
@@ -54,13 +54,13 @@ pub record HasLived (d : Domain) (name : List ℕ) (queue server made : ℕ) (de
   pub unborn : (g : ℕ) → made < g → All (λ (e : Event). is_of server g e ≡ false) (theirs desk.caller.work)
 
 -- the life is the slot's last one
-pub record IsLast (name : List ℕ) (slot : ServerSlot) (life : Life) : Type 0 where
+pub record IsLast (name : List ℕ) (slot : ServerSlot) (life : LifeState) : Type 0 where
   pub server : life.server ≡ slot.server
   pub named : life.name ≡ name
   pub number : life.generation.0 ≡ slot.made
 
 -- it went as these events say, and each request of theirs that it took was handed on
-pub record IsGoing (d : Domain) (queue : ℕ) (desk : Desk) (own : List Event) (life : Life) : Type 0 where
+pub record IsGoing (d : Domain) (queue : ℕ) (desk : Desk) (own : List Event) (life : LifeState) : Type 0 where
   pub follows : Follows d.setup (ShowsReason d desk) life own
   pub handed : AtEach (IsHanded life.server.0 life.generation.0 life.asked (IsSentFor d queue desk)) own
 
@@ -110,7 +110,7 @@ module _ {L T : Type 0} (d : Domain) (shows : T → StarterShows) where
     pub may : may_start_by w.served.slot.restarts 0 ≡ true
 
   -- the server is in that life, of which so many requests wait for their RETURN
-  pub record IsIn (doing : Doing) (turn : Turn) (waits : ℕ) (life : Life) (w : ServerWorker L T) : Type 0 where
+  pub record IsIn (doing : Doing) (turn : Turn) (waits : ℕ) (life : LifeState) (w : ServerWorker L T) : Type 0 where
     pub at : IsAtWork w (life.generation ∷ [])
     pub last : IsLast w.name w.served.slot life
     pub going : IsGoing d w.queue.0 w.desk (theirs w.desk.caller.work) life
@@ -120,11 +120,11 @@ module _ {L T : Type 0} (d : Domain) (shows : T → StarterShows) where
     pub room : vec_len w.served.lives < vec_capacity w.served.lives
 
   -- it waits for a request
-  abbrev pub IsFree : Life → ServerWorker L T → Type 0
+  abbrev pub IsFree : LifeState → ServerWorker L T → Type 0
   IsFree life w = IsIn (doings.Idle life.generation) AwaitsInvoke 0 life w
 
   -- the server took a request in that life, which isn't handed on yet
-  pub record HasTaken (life : Life) (w : ServerWorker L T) : Type 0 where
+  pub record HasTaken (life : LifeState) (w : ServerWorker L T) : Type 0 where
     pub at : IsAtWork w (life.generation ∷ [])
     pub last : IsLast w.name w.served.slot life
     pub t : Taken

@@ -4,7 +4,6 @@ use Rattle.std.specs.List.{All}
 use Rattle.xa_desk.specs.xa_types.declared.call.Rval.{Rval}
 use Rattle.xa_desk.specs.xa_types.declared.call.Rval.TheVariants.{Exit}
 use Rattle.xa_desk.specs.xa_types.declared.stamp.Stamp.{Stamp}
-use Rattle.xa_desk.specs.xa_types.declared.stamp.Worn.{Worn}
 use Rattle.xa_desk.specs.xa_events.declared.event.Event.{Event}
 use Rattle.xa_desk.specs.xa_events.declared.event.Event.TheVariants.{Take, Gone}
 use Rattle.xa_desk.specs.xa_events.declared.event.Taken.{Taken}
@@ -13,7 +12,6 @@ use Rattle.xa_desk.specs.xa_events.Cases.{IsShut}
 use Rattle.xa_desk.specs.xa_events.Server.{is_gone}
 use Rattle.xa_desk.specs.xa_queue.declared.entry.Entry.{Entry}
 use Rattle.xa_desk.specs.xa_worker.Work.{theirs}
-use Rattle.xa_desk.specs.xa_worker.declared.work.Halt.TheVariants as halts
 use Rattle.xa_desk.specs.xa_caller.declared.phase.Phase.TheVariants.{Idle}
 use Rattle.xa_desk.specs.xa_caller.Drafts.{Cargo}
 use Rattle.xa_desk.specs.xa_server.declared.slot.ServerSlot.{ServerSlot}
@@ -31,7 +29,6 @@ use Rattle.xa_desk.specs.declared.desk.Desk.{Desk}
 use Rattle.xa_desk.specs.declared.serving.Took.{Took}
 use Rattle.xa_desk.specs.declared.serving.Took.TheVariants as takes
 use Rattle.xa_desk.specs.declared.stopped.Stopped.{Stopped}
-use Rattle.xa_desk.specs.declared.stopped.Stopped.TheVariants.{Here}
 use Rattle.xa_desk.specs.Desks.{Leads}
 use Rattle.xa_desk.specs.Found.{SawAtQueue}
 use Rattle.xa_desk.specs.Serving.{IsServing, IsTaken, HasNothing, LeftOthers, IsSwept}
@@ -115,9 +112,6 @@ is_exit Exit = true
 is_exit value = false
 
 -- ---- retiring
-
-abbrev pub stop_by : Worn → Stopped
-stop_by worn = Here (halts.Worn worn.0)
 
 -- the worker noted that its server was given up, or not yet, and its slot is else what it was
 pub record Retires (d : Domain) (slot slot' : ServerSlot) (old new : Desk) : Type 0 where

@@ -1,7 +1,7 @@
 -- What a server's worker asks, and what it leaves (this project's own).
-use Rattle.std.specs.Prelude.{◌≡◌, ℕ, true, List, [], ◌∷◌, Option, Some, None, IfSome}
-use Rattle.xa_desk.specs.xa_pipe.Standing.{Standing as Life}
-use Rattle.xa_desk.specs.xa_restart.Rule.{Standing as Restarts}
+use Rattle.std.specs.Prelude.{◌≡◌, true, List, [], ◌∷◌, Option, Some, None, IfSome}
+use Rattle.xa_desk.specs.xa_pipe.Standing.{LifeState}
+use Rattle.xa_desk.specs.xa_restart.Rule.{RestartState}
 use Rattle.xa_desk.specs.xa_caller.declared.phase.Phase.TheVariants.{Idle}
 use Rattle.xa_desk.specs.xa_server.Changes.{new_slot}
 use Rattle.xa_desk.specs.xa_server.Served.{StarterShows}
@@ -12,7 +12,7 @@ use Rattle.xa_desk.specs.Serving.{IsServing}
 use Rattle.xa_server_worker.specs.declared.working.ServerWorker.{ServerWorker}
 use Rattle.xa_server_worker.specs.Lives.{HasStarted, ServerShows}
 
-abbrev pub cut_in : Option Life → List Life
+abbrev pub cut_in : Option LifeState → List LifeState
 cut_in None = []
 cut_in (Some life) = life ∷ []
 
@@ -21,7 +21,7 @@ module _ {L T : Type 0} (d : Domain) (shows : T → StarterShows) where
   pub record MayServe (worker : ServerWorker L T) : Type 0 where
     pub is : IsDesk d worker.desk
     pub serving : IsServing d worker.queue.0 worker.served.slot worker.desk
-    pub restarts : Restarts
+    pub restarts : RestartState
     pub fresh : worker.served.slot ≡ new_slot worker.served.slot.server restarts
     pub none : restarts.starts ≡ []
     pub own : worker.desk.caller.work.own ≡ []

@@ -6,7 +6,7 @@ ghost use Rattle.xa_desk.specs.xa_events.Server.{is_shutdown};
 ghost use Rattle.xa_desk.specs.xa_events.declared.event.Doing.TheVariants as doings;
 ghost use Rattle.xa_desk.specs.xa_pipe.declared.turn.Turn.TheVariants.{AwaitsNext, Serving, Exited};
 ghost use Rattle.xa_desk.specs.xa_pipe.Frames.{return_frame, forward_frame};
-ghost use Rattle.xa_desk.specs.xa_pipe.Standing.{Standing as Lives, IsSound, cut_short, tag_of};
+ghost use Rattle.xa_desk.specs.xa_pipe.Standing.{LifeState, IsSound, cut_short, tag_of};
 ghost use Rattle.xa_desk.specs.xa_pipe.Changes.{Heard};
 ghost use Rattle.xa_desk.specs.xa_server.declared.slot.Last.TheVariants as lasts;
 ghost use Rattle.xa_desk.specs.xa_types.declared.ids.RequestId.{RequestId as Asked};
@@ -19,17 +19,15 @@ ghost use Rattle.xa_server_worker.specs.Steps.{is_exit};
 ghost use Rattle.xa_server_worker.specs.Standing.{Goes, IsIn, IsFree, HasTaken, MayDie, HasEnded, OverWith, ExchangedAs, OffAs};
 
 use crate::passing::forward;
-use crate::taking::stop_by;
 use crate::telling::{tell, tell_if};
 use crate::working::ServerWorker;
-use std::alloc::Global;
 use std::sync::Wait;
 use xa_desk::events::StopCause;
 use xa_desk::link::{Gate, Link, Starter};
 use xa_desk::pipe::{Answered, EndedLife, Finish, Forward, Life, Return};
 use xa_desk::server::Closing;
 use xa_desk::types::Rval;
-use xa_desk::{Domain, Stopped};
+use xa_desk::{Domain, Monitor, Stopped};
 
 /// What comes of a life: it goes on, or is over, and then its last request may have to be answered.
 pub(crate) enum Exchanged<L: Link> {
@@ -75,65 +73,61 @@ impl<L: Link, T: Starter<L>> ServerWorker<L, T> {
     {
         let cause = over.cause();
         self.served.keep(over);
-        match self.desk.die(domain, &mut self.served.slot, cause) {
-            Ok(closing) => Ok(closing),
-            Err(worn) => Err(stop_by(worn)),
-        }
+        Ok(self.desk.die(domain, &mut self.served.slot, cause)?)
     }
 
     // The service returned with TPEXIT, which ends the life.
-    fn exit<G: Gate>(
+    fn exit<W, G: Gate>(
         &mut self,
-        domain: &Domain,
-        gate: &G,
+        monitor: &Monitor<'_, W, G>,
         life: Life<L>,
         closing: Closing,
     ) -> Result<Closing, Stopped>
-        requires domain { IsDomain domain.now }
-        requires life { IsIn domain.now T.shows (doings.Idle life.generation) Exited 0 life self.old }
+        requires domain { IsDomain monitor.now.domain.now }
+        requires life { IsIn monitor.now.domain.now T.shows (doings.Idle life.generation) Exited 0 life self.old }
         requires last { self.old.served.slot.last ≡ lasts.Badly }
         requires untold { ToldBefore self.old.desk }
-        requires told { IsToTell domain.now self.old.desk closing }
-        ensures goes { Goes domain.now self.old self.new }
-        ensures over { IfOk result (λ closing. OverWith domain.now T.shows (Some closing) self.new) }
-        ensures halted { IfErr result (λ stopped. HasEnded domain.now T.shows (Some stopped) self.new) }
+        requires told { IsToTell monitor.now.domain.now self.old.desk closing }
+        ensures goes { Goes monitor.now.domain.now self.old self.new }
+        ensures over { IfOk result (λ closing. OverWith monitor.now.domain.now T.shows (Some closing) self.new) }
+        ensures halted { IfErr result (λ stopped. HasEnded monitor.now.domain.now T.shows (Some stopped) self.new) }
     {
         let over = life.exit();
         let _cause = over.cause();
         self.served.keep(over);
         match self
             .desk
-            .stop(domain, &mut self.served.slot, StopCause::Exit)
+            .stop(monitor.domain, &mut self.served.slot, StopCause::Exit)
         {
             Ok(_) => {
                 let _rises = self.desk.caller.latest();
                 Ok(closing)
             }
             Err(worn) => {
-                tell(domain, &mut self.desk, gate, closing);
-                Err(stop_by(worn))
+                tell(monitor, &mut self.desk, closing);
+                Err(worn.into())
             }
         }
     }
 
     // The service returned.
-    fn returned<G: Gate>(
+    fn returned<W, G: Gate>(
         &mut self,
-        alloc: Global,
-        domain: &Domain,
-        gate: &G,
+        monitor: &Monitor<'_, W, G>,
         life: Life<L>,
         back: Return,
     ) -> Result<Exchanged<L>, Stopped>
-        requires domain { IsDomain domain.now }
-        requires before { (old : Lives) × (request : Asked) × IsIn domain.now T.shows (doings.Busy old.generation request) Serving 1 old self.old
+        requires domain { IsDomain monitor.now.domain.now }
+        requires before { (old : LifeState) × (request : Asked) × IsIn monitor.now.domain.now T.shows (doings.Busy old.generation request) Serving 1 old self.old
             × Heard (return_frame (tag_of old) back.value back.code back.payload) life old }
-        ensures goes { Goes domain.now self.old self.new }
-        ensures exchanged { IfOk result (λ exchanged. ExchangedAs domain.now T.shows exchanged self.new) }
-        ensures halted { IfErr result (λ stopped. HasEnded domain.now T.shows (Some stopped) self.new) }
+        ensures goes { Goes monitor.now.domain.now self.old self.new }
+        ensures exchanged { IfOk result (λ exchanged. ExchangedAs monitor.now.domain.now T.shows exchanged self.new) }
+        ensures halted { IfErr result (λ stopped. HasEnded monitor.now.domain.now T.shows (Some stopped) self.new) }
     {
         let exits = is_exit(back.value);
-        let finished = self.desk.finish(alloc, domain, &mut self.served.slot, back);
+        let finished = self
+            .desk
+            .finish(monitor.alloc, monitor.domain, &mut self.served.slot, back);
         let closing = match finished {
             Ok(closing) => closing,
             Err(halt) => {
@@ -142,31 +136,28 @@ impl<L: Link, T: Starter<L>> ServerWorker<L, T> {
             }
         };
         if exits {
-            return Ok(Exchanged::Over(self.exit(domain, gate, life, closing)?));
+            return Ok(Exchanged::Over(self.exit(monitor, life, closing)?));
         }
-        self.go_on(domain, gate, life, Some(closing))
+        self.go_on(monitor, life, Some(closing))
     }
 
     // The service forwards its request.
     fn forwarded<W: Wait, G: Gate>(
         &mut self,
-        rt: &W,
-        alloc: Global,
-        domain: &Domain,
-        gate: &G,
+        monitor: &Monitor<'_, W, G>,
         life: Life<L>,
         forwards: Forward,
     ) -> Result<Exchanged<L>, Stopped>
-        requires domain { IsDomain domain.now }
-        requires before { (old : Lives) × (t : Taken) × IsIn domain.now T.shows (doings.Busy old.generation t.request) Serving 1 old self.old
-            × Heard (forward_frame (tag_of old) forwards.service forwards.payload) life old × IfSome self.old.served.slot.hand (IsTaken domain.now self.old.queue.0 t self.old.desk) }
-        ensures goes { Goes domain.now self.old self.new }
-        ensures exchanged { IfOk result (λ exchanged. ExchangedAs domain.now T.shows exchanged self.new) }
-        ensures halted { IfErr result (λ stopped. HasEnded domain.now T.shows (Some stopped) self.new) }
+        requires domain { IsDomain monitor.now.domain.now }
+        requires before { (old : LifeState) × (t : Taken) × IsIn monitor.now.domain.now T.shows (doings.Busy old.generation t.request) Serving 1 old self.old
+            × Heard (forward_frame (tag_of old) forwards.service forwards.payload) life old × IfSome self.old.served.slot.hand (IsTaken monitor.now.domain.now self.old.queue.0 t self.old.desk) }
+        ensures goes { Goes monitor.now.domain.now self.old self.new }
+        ensures exchanged { IfOk result (λ exchanged. ExchangedAs monitor.now.domain.now T.shows exchanged self.new) }
+        ensures halted { IfErr result (λ stopped. HasEnded monitor.now.domain.now T.shows (Some stopped) self.new) }
     {
         let slot = &mut self.served.slot;
-        match forward(rt, alloc, domain, &mut self.desk, slot, forwards) {
-            Ok(closing) => self.go_on(domain, gate, life, closing),
+        match forward(monitor, &mut self.desk, slot, forwards) {
+            Ok(closing) => self.go_on(monitor, life, closing),
             Err(halt) => {
                 self.cut(life);
                 Err(Stopped::Here(halt))
@@ -175,56 +166,50 @@ impl<L: Link, T: Starter<L>> ServerWorker<L, T> {
     }
 
     // The server is idle, behind a request of which somebody may have to be told.
-    fn go_on<G: Gate>(
+    fn go_on<W, G: Gate>(
         &mut self,
-        domain: &Domain,
-        gate: &G,
+        monitor: &Monitor<'_, W, G>,
         life: Life<L>,
         closing: Option<Closing>,
     ) -> Result<Exchanged<L>, Stopped>
-        requires domain { IsDomain domain.now }
-        requires life { IsIn domain.now T.shows (doings.Idle life.generation) AwaitsNext 0 life self.old }
-        requires told { IfSome closing (IsToTell domain.now self.old.desk) }
-        ensures goes { Goes domain.now self.old self.new }
-        ensures exchanged { IfOk result (λ exchanged. ExchangedAs domain.now T.shows exchanged self.new) }
-        ensures halted { IfErr result (λ stopped. HasEnded domain.now T.shows (Some stopped) self.new) }
+        requires domain { IsDomain monitor.now.domain.now }
+        requires life { IsIn monitor.now.domain.now T.shows (doings.Idle life.generation) AwaitsNext 0 life self.old }
+        requires told { IfSome closing (IsToTell monitor.now.domain.now self.old.desk) }
+        ensures goes { Goes monitor.now.domain.now self.old self.new }
+        ensures exchanged { IfOk result (λ exchanged. ExchangedAs monitor.now.domain.now T.shows exchanged self.new) }
+        ensures halted { IfErr result (λ stopped. HasEnded monitor.now.domain.now T.shows (Some stopped) self.new) }
     {
-        tell_if(domain, &mut self.desk, gate, closing);
+        tell_if(monitor, &mut self.desk, closing);
         match life.read_next() {
             Ok(life) => Ok(Exchanged::Going(life)),
-            Err(over) => Ok(Exchanged::Over(self.died(domain, over)?)),
+            Err(over) => Ok(Exchanged::Over(self.died(monitor.domain, over)?)),
         }
     }
 
     // Hands the request in hand to the program, and hears what its service returns or forwards.
     pub(crate) fn exchange<W: Wait, G: Gate>(
         &mut self,
-        rt: &W,
-        alloc: Global,
-        domain: &Domain,
-        gate: &G,
+        monitor: &Monitor<'_, W, G>,
         life: Life<L>,
     ) -> Result<Exchanged<L>, Stopped>
-        requires domain { IsDomain domain.now }
-        requires taken { HasTaken domain.now T.shows life self.old }
-        ensures goes { Goes domain.now self.old self.new }
-        ensures exchanged { IfOk result (λ exchanged. ExchangedAs domain.now T.shows exchanged self.new) }
-        ensures halted { IfErr result (λ stopped. HasEnded domain.now T.shows (Some stopped) self.new) }
+        requires domain { IsDomain monitor.now.domain.now }
+        requires taken { HasTaken monitor.now.domain.now T.shows life self.old }
+        ensures goes { Goes monitor.now.domain.now self.old self.new }
+        ensures exchanged { IfOk result (λ exchanged. ExchangedAs monitor.now.domain.now T.shows exchanged self.new) }
+        ensures halted { IfErr result (λ stopped. HasEnded monitor.now.domain.now T.shows (Some stopped) self.new) }
     {
         let asked = self.served.slot.invocation();
         let sent = life.send(&asked.service, &asked.routine, &asked.payload);
         let life = match sent {
             Ok(life) => life,
-            Err(over) => return Ok(Exchanged::Over(self.died(domain, over)?)),
+            Err(over) => return Ok(Exchanged::Over(self.died(monitor.domain, over)?)),
         };
         match life.hear() {
             Ok(Answered { life, back }) => match back {
-                Finish::Returns(back) => self.returned(alloc, domain, gate, life, back),
-                Finish::Forwards(forwards) => {
-                    self.forwarded(rt, alloc, domain, gate, life, forwards)
-                }
+                Finish::Returns(back) => self.returned(monitor, life, back),
+                Finish::Forwards(forwards) => self.forwarded(monitor, life, forwards),
             },
-            Err(over) => Ok(Exchanged::Over(self.died(domain, over)?)),
+            Err(over) => Ok(Exchanged::Over(self.died(monitor.domain, over)?)),
         }
     }
 
@@ -242,12 +227,8 @@ impl<L: Link, T: Starter<L>> ServerWorker<L, T> {
             return Ok(Off::Dead(Some(self.died(domain, over)?)));
         }
         self.served.keep(over);
-        match self
-            .desk
-            .stop(domain, &mut self.served.slot, StopCause::Shutdown)
-        {
-            Ok(_) => Ok(Off::Shut),
-            Err(worn) => Err(stop_by(worn)),
-        }
+        self.desk
+            .stop(domain, &mut self.served.slot, StopCause::Shutdown)?;
+        Ok(Off::Shut)
     }
 }

@@ -23,7 +23,7 @@ use xa_desk::queue::{Entry, Refusal};
 use xa_desk::server::{Closing, Forwarding, ServerSlot};
 use xa_desk::types::{Name, Octets};
 use xa_desk::work::Halt;
-use xa_desk::{Desk, Domain, NotPassed};
+use xa_desk::{Desk, Domain, Monitor, NotPassed};
 
 // How the worker halts by what a queue refused for, if it does.
 fn halt_by(why: Refusal) -> Option<Halt>
@@ -88,26 +88,24 @@ fn aim_again(
 
 // Puts the request that is out on the queue that it is aimed at; if that doesn't take it, it is aimed by the row at that
 // attempt, the next. At a halt it is in hand again.
-fn try_to_pass<W: Wait>(
-    rt: &W,
-    alloc: Global,
-    domain: &Domain,
+fn try_to_pass<W: Wait, G>(
+    monitor: &Monitor<'_, W, G>,
     desk: &mut Desk,
     slot: &mut ServerSlot,
     entry: Entry<Cargo>,
     event: Event,
     attempt: u32,
 ) -> Tried
-    requires domain { IsDomain domain.now }
-    requires desk { IsDesk domain.now desk.old }
-    requires passing { IsPassing domain.now (its_queue domain.now slot.old) entry event slot.old desk.old }
-    requires tried { (n : ℕ) × (attempt ≤ n + 1) × IsBy desk.old n event × WereTried domain.now desk.old n }
-    ensures { (service : List ℕ) → HasFound domain.now service desk.old.reader.found desk.old
-        → TriedAs domain.now (its_queue domain.now slot.old) service entry.cargo.invocation.payload attempt result slot.old slot.new desk.old desk.new }
+    requires domain { IsDomain monitor.now.domain.now }
+    requires desk { IsDesk monitor.now.domain.now desk.old }
+    requires passing { IsPassing monitor.now.domain.now (its_queue monitor.now.domain.now slot.old) entry event slot.old desk.old }
+    requires tried { (n : ℕ) × (attempt ≤ n + 1) × IsBy desk.old n event × WereTried monitor.now.domain.now desk.old n }
+    ensures { (service : List ℕ) → HasFound monitor.now.domain.now service desk.old.reader.found desk.old
+        → TriedAs monitor.now.domain.now (its_queue monitor.now.domain.now slot.old) service entry.cargo.invocation.payload attempt result slot.old slot.new desk.old desk.new }
 {
-    match desk.pass(rt, domain, slot, entry, event) {
+    match desk.pass(monitor.rt, monitor.domain, slot, entry, event) {
         Ok(queue) => {
-            domain.wake_server(queue);
+            monitor.domain.wake_server(queue);
             Tried::Passed(None)
         }
         Err(not_passed) => {
@@ -117,7 +115,7 @@ fn try_to_pass<W: Wait>(
                 why,
             } = not_passed;
             match halt_by(why) {
-                None => aim_again(alloc, domain, desk, slot, entry, attempt),
+                None => aim_again(monitor.alloc, monitor.domain, desk, slot, entry, attempt),
                 Some(halt) => {
                     slot.retake(entry);
                     Tried::Halted(halt)
@@ -129,28 +127,26 @@ fn try_to_pass<W: Wait>(
 
 // Puts the request that is out on the first queue that takes it. If none does its forward failed, and its caller is to be
 // told. At a halt it is in hand again.
-fn pass_on<W: Wait>(
-    rt: &W,
-    alloc: Global,
-    domain: &Domain,
+fn pass_on<W: Wait, G>(
+    monitor: &Monitor<'_, W, G>,
     desk: &mut Desk,
     slot: &mut ServerSlot,
     first: Entry<Cargo>,
     first_event: Event,
 ) -> Result<Option<Closing>, Halt>
-    requires domain { IsDomain domain.now }
-    requires desk { IsDesk domain.now desk.old }
-    requires passing { IsPassing domain.now (its_queue domain.now slot.old) first first_event slot.old desk.old }
+    requires domain { IsDomain monitor.now.domain.now }
+    requires desk { IsDesk monitor.now.domain.now desk.old }
+    requires passing { IsPassing monitor.now.domain.now (its_queue monitor.now.domain.now slot.old) first first_event slot.old desk.old }
     requires first { IsBy desk.old 0 first_event }
-    ensures { (service : List ℕ) → HasFound domain.now service desk.old.reader.found desk.old
-        → PassesAs domain.now (its_queue domain.now slot.old) service first.cargo.invocation.payload result slot.old slot.new desk.old desk.new }
+    ensures { (service : List ℕ) → HasFound monitor.now.domain.now service desk.old.reader.found desk.old
+        → PassesAs monitor.now.domain.now (its_queue monitor.now.domain.now slot.old) service first.cargo.invocation.payload result slot.old slot.new desk.old desk.new }
 {
     let mut entry = first;
     let mut event = first_event;
     let mut attempt = 0u32;
-    for _ in rt.forever() {
+    for _ in monitor.rt.forever() {
         attempt = attempt.saturating_add(1);
-        match try_to_pass(rt, alloc, domain, desk, slot, entry, event, attempt) {
+        match try_to_pass(monitor, desk, slot, entry, event, attempt) {
             Tried::Passed(closing) => return Ok(closing),
             Tried::Halted(halt) => return Err(halt),
             Tried::Again(next, next_event) => {
@@ -163,42 +159,40 @@ fn pass_on<W: Wait>(
 }
 
 // Looks up the service of that name, if it is a name.
-fn look_up<W: Wait>(rt: &W, domain: &Domain, desk: &mut Desk, service: &Octets)
-    requires domain { IsDomain domain.now }
-    requires desk { IsDesk domain.now desk.old }
-    ensures steps { Steps domain.now [] desk.old desk.new }
+fn look_up<W: Wait, G>(monitor: &Monitor<'_, W, G>, desk: &mut Desk, service: &Octets)
+    requires domain { IsDomain monitor.now.domain.now }
+    requires desk { IsDesk monitor.now.domain.now desk.old }
+    ensures steps { Steps monitor.now.domain.now [] desk.old desk.new }
     ensures own { desk.new.caller.work.own ≡ desk.old.caller.work.own }
     ensures seat { desk.new.caller.seat ≡ desk.old.caller.seat }
-    ensures found { is_name service.now ≡ true → HasFound domain.now service.now desk.new.reader.found desk.new }
-    ensures serving { (queue : ℕ) (slot : Slot) → IsServing domain.now queue slot desk.old → IsServing domain.now queue slot desk.new }
-    ensures taken { (queue : ℕ) (t : Taken) (entry : EntryOf CargoOf) → IsTaken domain.now queue t desk.old entry → IsTaken domain.now queue t desk.new entry }
+    ensures found { is_name service.now ≡ true → HasFound monitor.now.domain.now service.now desk.new.reader.found desk.new }
+    ensures serving { (queue : ℕ) (slot : Slot) → IsServing monitor.now.domain.now queue slot desk.old → IsServing monitor.now.domain.now queue slot desk.new }
+    ensures taken { (queue : ℕ) (t : Taken) (entry : EntryOf CargoOf) → IsTaken monitor.now.domain.now queue t desk.old entry → IsTaken monitor.now.domain.now queue t desk.new entry }
 {
     if let Ok(name) = Name::read(service.slice()) {
-        desk.look_up(rt, domain, &name);
+        desk.look_up(monitor.rt, monitor.domain, &name);
     }
 }
 
 /// The service forwards the request in hand: it goes on to a queue of the service that is named, or its forward failed, and
 /// its caller is to be told. At a halt it is in hand still.
-pub(crate) fn forward<W: Wait>(
-    rt: &W,
-    alloc: Global,
-    domain: &Domain,
+pub(crate) fn forward<W: Wait, G>(
+    monitor: &Monitor<'_, W, G>,
     desk: &mut Desk,
     slot: &mut ServerSlot,
     forwards: Forward,
 ) -> Result<Option<Closing>, Halt>
-    requires domain { IsDomain domain.now }
-    requires desk { IsDesk domain.now desk.old }
-    requires serving { (t : Taken) × IsServing domain.now (its_queue domain.now slot.old) slot.old desk.old × IfSome slot.old.hand (IsTaken domain.now (its_queue domain.now slot.old) t desk.old) }
+    requires domain { IsDomain monitor.now.domain.now }
+    requires desk { IsDesk monitor.now.domain.now desk.old }
+    requires serving { (t : Taken) × IsServing monitor.now.domain.now (its_queue monitor.now.domain.now slot.old) slot.old desk.old × IfSome slot.old.hand (IsTaken monitor.now.domain.now (its_queue monitor.now.domain.now slot.old) t desk.old) }
     requires busy { IsBusy slot.old.doing }
-    ensures { PassesAs domain.now (its_queue domain.now slot.old) forwards.service forwards.payload result slot.old slot.new desk.old desk.new }
+    ensures { PassesAs monitor.now.domain.now (its_queue monitor.now.domain.now slot.old) forwards.service forwards.payload result slot.old slot.new desk.old desk.new }
 {
     let Forward { service, payload } = forwards;
-    look_up(rt, domain, desk, &service);
-    match desk.forward(alloc, domain, slot, &service, payload) {
+    look_up(monitor, desk, &service);
+    match desk.forward(monitor.alloc, monitor.domain, slot, &service, payload) {
         Ok(Forwarding::Failed(closing)) => Ok(Some(closing)),
-        Ok(Forwarding::On(entry, event)) => pass_on(rt, alloc, domain, desk, slot, entry, event),
+        Ok(Forwarding::On(entry, event)) => pass_on(monitor, desk, slot, entry, event),
         Err(halt) => Err(halt),
     }
 }

@@ -9,13 +9,12 @@ use crate::living::{Exchanged, Off};
 use crate::retiring::{NOW, retire};
 use crate::taking::next;
 use crate::telling::{tell, tell_if};
-use std::alloc::Global;
 use std::sync::Wait;
 use xa_desk::link::{Gate, Link, Starter};
 use xa_desk::pipe::{CutLife, Life};
 use xa_desk::server::Served;
 use xa_desk::types::{Name, QueueId};
-use xa_desk::{Desk, Domain, Stopped};
+use xa_desk::{Desk, Domain, Monitor, Stopped};
 
 /// A server's worker: its desk, the server with its lives, the server's name and queue, whether its first start is up or
 /// given up, the life that went on at a halt, and why it ended before its work was done, if it did.
@@ -33,30 +32,27 @@ impl<L: Link, T: Starter<L>> ServerWorker<L, T> {
     // Serves in one life, to its end.
     fn serve<W: Wait, G: Gate>(
         &mut self,
-        rt: &W,
-        alloc: Global,
-        domain: &Domain,
-        gate: &G,
+        monitor: &Monitor<'_, W, G>,
         first: Life<L>,
     ) -> Result<Off, Stopped>
-        requires domain { IsDomain domain.now }
-        requires free { IsFree domain.now T.shows first self.old }
-        ensures goes { Goes domain.now self.old self.new }
-        ensures off { IfOk result (λ off. OffAs domain.now T.shows off self.new) }
-        ensures halted { IfErr result (λ stopped. HasEnded domain.now T.shows (Some stopped) self.new) }
+        requires domain { IsDomain monitor.now.domain.now }
+        requires free { IsFree monitor.now.domain.now T.shows first self.old }
+        ensures goes { Goes monitor.now.domain.now self.old self.new }
+        ensures off { IfOk result (λ off. OffAs monitor.now.domain.now T.shows off self.new) }
+        ensures halted { IfErr result (λ stopped. HasEnded monitor.now.domain.now T.shows (Some stopped) self.new) }
     {
         let mut life = first;
-        for _ in rt.forever() {
+        for _ in monitor.rt.forever() {
             let slot = &mut self.served.slot;
-            match next(rt, domain, gate, &mut self.desk, slot, self.queue) {
+            match next(monitor, &mut self.desk, slot, self.queue) {
                 Ok(true) => {}
-                Ok(false) => return self.shut_down(domain, life),
+                Ok(false) => return self.shut_down(monitor.domain, life),
                 Err(stopped) => {
                     self.cut(life);
                     return Err(stopped);
                 }
             }
-            match self.exchange(rt, alloc, domain, gate, life)? {
+            match self.exchange(monitor, life)? {
                 Exchanged::Going(next) => life = next,
                 Exchanged::Over(closing) => return Ok(Off::Dead(Some(closing))),
             }
@@ -76,25 +72,23 @@ impl<L: Link, T: Starter<L>> ServerWorker<L, T> {
     }
 
     // One life, from its start to its end; a start that fails is one too.
-    fn live<W: Wait, G: Gate>(
-        &mut self,
-        rt: &W,
-        alloc: Global,
-        domain: &Domain,
-        gate: &G,
-    ) -> Result<Off, Stopped>
-        requires domain { IsDomain domain.now }
-        requires off { MayGoOn domain.now T.shows self.old }
-        ensures goes { Goes domain.now self.old self.new }
-        ensures off { IfOk result (λ off. OffAs domain.now T.shows off self.new) }
-        ensures halted { IfErr result (λ stopped. HasEnded domain.now T.shows (Some stopped) self.new) }
+    fn live<W: Wait, G: Gate>(&mut self, monitor: &Monitor<'_, W, G>) -> Result<Off, Stopped>
+        requires domain { IsDomain monitor.now.domain.now }
+        requires off { MayGoOn monitor.now.domain.now T.shows self.old }
+        ensures goes { Goes monitor.now.domain.now self.old self.new }
+        ensures off { IfOk result (λ off. OffAs monitor.now.domain.now T.shows off self.new) }
+        ensures halted { IfErr result (λ stopped. HasEnded monitor.now.domain.now T.shows (Some stopped) self.new) }
     {
-        if domain.halt.get().is_some() {
+        if monitor.domain.halt.get().is_some() {
             return Err(Stopped::Elsewhere);
         }
-        let started = self
-            .desk
-            .start(alloc, domain, &mut self.served, &self.name, NOW);
+        let started = self.desk.start(
+            monitor.alloc,
+            monitor.domain,
+            &mut self.served,
+            &self.name,
+            NOW,
+        );
         let life = match started {
             Ok(Some(life)) => life,
             Ok(None) => return Ok(Off::Dead(None)),
@@ -102,69 +96,63 @@ impl<L: Link, T: Starter<L>> ServerWorker<L, T> {
         };
         match life.greet() {
             Ok(life) => {
-                self.count_up(domain);
-                self.serve(rt, alloc, domain, gate, life)
+                self.count_up(monitor.domain);
+                self.serve(monitor, life)
             }
-            Err(over) => Ok(Off::Dead(Some(self.died(domain, over)?))),
+            Err(over) => Ok(Off::Dead(Some(self.died(monitor.domain, over)?))),
         }
     }
 
     // Lives as often as its restart rule allows.
-    fn live_all<W: Wait, G: Gate>(
-        &mut self,
-        rt: &W,
-        alloc: Global,
-        domain: &Domain,
-        gate: &G,
-    ) -> Result<(), Stopped>
-        requires domain { IsDomain domain.now }
-        requires off { MayGoOn domain.now T.shows self.old }
-        ensures goes { Goes domain.now self.old self.new }
-        ensures ended { HasEnded domain.now T.shows (why_of result) self.new }
+    fn live_all<W: Wait, G: Gate>(&mut self, monitor: &Monitor<'_, W, G>) -> Result<(), Stopped>
+        requires domain { IsDomain monitor.now.domain.now }
+        requires off { MayGoOn monitor.now.domain.now T.shows self.old }
+        ensures goes { Goes monitor.now.domain.now self.old self.new }
+        ensures ended { HasEnded monitor.now.domain.now T.shows (why_of result) self.new }
     {
-        for _ in rt.forever() {
-            let closing = match self.live(rt, alloc, domain, gate)? {
+        for _ in monitor.rt.forever() {
+            let closing = match self.live(monitor)? {
                 Off::Shut => return Ok(()),
                 Off::Dead(closing) => closing,
             };
             if self.served.slot.may_start(NOW) {
-                tell_if(domain, &mut self.desk, gate, closing);
+                tell_if(monitor, &mut self.desk, closing);
                 continue;
             }
             let slot = &mut self.served.slot;
-            let retired = retire(rt, domain, gate, &mut self.desk, slot, self.queue);
+            let retired = retire(monitor, &mut self.desk, slot, self.queue);
             let _rises = self.desk.caller.latest();
-            tell_if(domain, &mut self.desk, gate, closing);
+            tell_if(monitor, &mut self.desk, closing);
             return retired;
         }
         unreachable!()
     }
 
     // The request in hand is let go of, if there is one.
-    fn let_go<G: Gate>(&mut self, domain: &Domain, gate: &G)
-        requires domain { IsDomain domain.now }
-        requires ended { HasEnded domain.now T.shows self.old.stopped self.old }
-        ensures goes { Goes domain.now self.old self.new }
-        ensures ended { HasEnded domain.now T.shows self.new.stopped self.new }
+    fn let_go<W, G: Gate>(&mut self, monitor: &Monitor<'_, W, G>)
+        requires domain { IsDomain monitor.now.domain.now }
+        requires ended { HasEnded monitor.now.domain.now T.shows self.old.stopped self.old }
+        ensures goes { Goes monitor.now.domain.now self.old self.new }
+        ensures ended { HasEnded monitor.now.domain.now T.shows self.new.stopped self.new }
         ensures hand { self.new.served.slot.hand ≡ None }
     {
         if let Some(closing) = self.served.slot.give_up() {
-            tell(domain, &mut self.desk, gate, closing);
+            tell(monitor, &mut self.desk, closing);
         }
     }
 
     /// Serves until its queue is closed and empty, or the server is given up. Where it comes to a halt it tells the others,
     /// and the request in hand is let go of.
-    pub fn work<W: Wait, G: Gate>(&mut self, rt: &W, alloc: Global, domain: &Domain, gate: &G)
-        requires domain { IsDomain domain.now }
-        requires may { MayServe domain.now T.shows self.old }
-        ensures served { HasServed domain.now T.shows self.old self.new }
+    pub fn work<W: Wait, G: Gate>(&mut self, monitor: &Monitor<'_, W, G>)
+        requires domain { IsDomain monitor.now.domain.now }
+        requires may { MayServe monitor.now.domain.now T.shows self.old }
+        ensures served { HasServed monitor.now.domain.now T.shows self.old self.new }
     {
-        self.stopped = self.live_all(rt, alloc, domain, gate).err();
+        self.stopped = self.live_all(monitor).err();
         if let Some(Stopped::Here(halt)) = self.stopped {
-            domain.stop(halt);
+            monitor.domain.stop(halt);
         }
-        self.let_go(domain, gate);
-        self.count_up(domain);
+        self.let_go(monitor);
+        self.count_up(monitor.domain);
     }
 }

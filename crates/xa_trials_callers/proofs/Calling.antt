@@ -31,7 +31,7 @@ use Rattle.xa_caller.specs.declared.phase.Phase.TheVariants.{Prepared}
 use Rattle.xa_caller.specs.declared.outcomes.Prepared.{Prepared as Made}
 use Rattle.xa_caller.specs.declared.outcomes.Aimed.TheVariants as aims
 use Rattle.xa_caller.specs.Drafts.{Cargo}
-use Rattle.xa_caller.specs.Caller.{Standing, AreRowsOf}
+use Rattle.xa_caller.specs.Caller.{CallerState, AreRowsOf}
 use Rattle.xa_caller.specs.Changes.{Prepares}
 use Rattle.xa_caller.specs.Unsent.{AimsAs}
 use Rattle.xa_caller.proofs.Next.{found-all, row-service}
@@ -51,7 +51,7 @@ own_row setup service queue routine row is = row_with_own (service_named setup s
 
 module _ (setup : Setup) (cells : Cells Filling) where
   -- a request that is made is to be put on one of the queues that were found
-  pub drafted : (op last : ℕ) (service : List ℕ) (payload : Data) (found : FoundRows) (made : Made) (new old : Standing) → op ≡ last + 1 → found.version ≤ 256 → is_sound setup payload ≡ true → AreRowsOf setup service found.rows
+  pub drafted : (op last : ℕ) (service : List ℕ) (payload : Data) (found : FoundRows) (made : Made) (new old : CallerState) → op ≡ last + 1 → found.version ≤ 256 → is_sound setup payload ≡ true → AreRowsOf setup service found.rows
       → IsSeatOf cells new.seat → Stands setup last old → Prepares setup cells op payload found made new old → HasDraft setup cells last found made.entry new
   drafted op last service payload found made new old turn low sound rows seat s p =
       let of_service = row-service setup service p.row (found-all (λ (row : Row). is_accepted setup row.accepts (kind_of payload)) (λ (row : Row). row ≡ row_for setup service row.queue.0 row.routine) found.rows p.row p.chosen rows) in
@@ -59,7 +59,7 @@ module _ (setup : Setup) (cells : Cells Filling) where
         seat = seat;
         stands = subst (Stands setup last) (sym p.made) s;
         draft = p.draft;
-        was = ap (λ (c : Standing). c.phase) p.made;
+        was = ap (λ (c : CallerState). c.phase) p.made;
         next = ap (λ (d : Draft). d.op) p.drawn ∙ turn;
         version = ap (λ (d : Draft). d.version) p.drawn;
         low = low;
@@ -70,17 +70,17 @@ module _ (setup : Setup) (cells : Cells Filling) where
       }
 
   -- and so is one that is aimed anew
-  pub aimed : (last : ℕ) (found : FoundRows) (entry : Entry Cargo) (new old : Standing) → HasDraft setup cells last found entry old
+  pub aimed : (last : ℕ) (found : FoundRows) (entry : Entry Cargo) (new old : CallerState) → HasDraft setup cells last found entry old
       → (attempt : ℕ) (next : Entry Cargo) (event : Event) → AimsAs entry found.rows attempt (aims.At next event) new old → HasDraft setup cells last found next new
   aimed last found entry new old d attempt next event aim =
       let a = aim.2 in
       let same = a.same ∙ ap (λ (x : Draft). record x { event = a.redrawn.event }) (same_draft old.phase d.draft a.draft d.was a.was) in
       let of_service = row-service setup _ aim.0 (at-all (λ (row : Row). row ≡ row_for setup entry.cargo.invocation.service row.queue.0 row.routine) found.rows attempt aim.0 aim.1 d.rows) in
       record {
-        seat = subst (IsSeatOf cells) (sym (ap (λ (c : Standing). c.seat) a.made)) d.seat;
+        seat = subst (IsSeatOf cells) (sym (ap (λ (c : CallerState). c.seat) a.made)) d.seat;
         stands = subst (Stands setup last) (sym a.made) d.stands;
         draft = a.redrawn;
-        was = ap (λ (c : Standing). c.phase) a.made;
+        was = ap (λ (c : CallerState). c.phase) a.made;
         next = ap (λ (x : Draft). x.op) same ∙ d.next;
         version = ap (λ (x : Draft). x.version) same ∙ d.version;
         low = d.low;

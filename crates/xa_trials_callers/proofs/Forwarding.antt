@@ -22,14 +22,14 @@ use Rattle.xa_cell.specs.declared.cells.Cells.{Cells}
 use Rattle.xa_cell.specs.Known.{IsSeatOf, IsTicketOf}
 use Rattle.xa_queue.specs.declared.entry.Entry.{Entry}
 use Rattle.xa_stamp.specs.declared.home.Stamped.{Stamped}
-use Rattle.xa_worker.specs.Work.{Standing, theirs, noted}
+use Rattle.xa_worker.specs.Work.{WorkState, theirs, noted}
 use Rattle.xa_caller.specs.declared.cargo.Filling.{Filling}
 use Rattle.xa_caller.specs.declared.outcomes.Aimed.{Aimed}
 use Rattle.xa_caller.specs.declared.outcomes.Aimed.TheVariants.{At, Past}
-use Rattle.xa_caller.specs.Caller.{Standing as Calling, MayCall, AreRowsOf}
+use Rattle.xa_caller.specs.Caller.{CallerState, MayCall, AreRowsOf}
 use Rattle.xa_caller.specs.Changes.{SetsPriority}
 use Rattle.xa_caller.specs.Drafts.{Cargo}
-use Rattle.xa_restart.specs.Rule.{Standing as Restarts, IsRuleOf, IsLast, may_start_by}
+use Rattle.xa_restart.specs.Rule.{RestartState, IsRuleOf, IsLast, may_start_by}
 use Rattle.xa_server.specs.declared.closing.Closing.{Closing}
 use Rattle.xa_server.specs.declared.forwarding.Forwarding.{Forwarding}
 use Rattle.xa_server.specs.declared.forwarding.Forwarding.TheVariants.{On, Failed}
@@ -46,7 +46,7 @@ use Rattle.xa_trials_callers.proofs.Serving.{busy_dies, finish_closed, death_clo
 
 -- ---- a server that was never started
 
-module _ (setup : Setup) (server : ServerSetup) (restarts : Restarts) (w : Standing) (is : w ≡ record { setup = setup; clients = 1; id = record { 0 = 2 }; stamp = record { 0 = 0 }; own = []; room = 0 })
+module _ (setup : Setup) (server : ServerSetup) (restarts : RestartState) (w : WorkState) (is : w ≡ record { setup = setup; clients = 1; id = record { 0 = 2 }; stamp = record { 0 = 0 }; own = []; room = 0 })
     (fresh : restarts ≡ record { restart = server.restart; maxgen = server.maxgen; grace = server.grace; starts = [] }) (slot : ServerSlot) (new : slot ≡ new_slot (record { 0 = 1 }) restarts) where
   pub first_stands : numbered 1 setup.servers ≡ Some server → Stands slot w
   first_stands first =
@@ -57,7 +57,7 @@ module _ (setup : Setup) (server : ServerSetup) (restarts : Restarts) (w : Stand
   pub first_may : (may : Bool) → (IsLast 0 slot.restarts.starts → may ≡ may_start_by slot.restarts 0) → may ≡ true → MayStart 0 slot w
   unfolding ticks
   first_may may test passes =
-      let none : slot.restarts.starts ≡ [] = ap (λ (u : ServerSlot). u.restarts.starts) new ∙ ap (λ (r : Restarts). r.starts) fresh in
+      let none : slot.restarts.starts ≡ [] = ap (λ (u : ServerSlot). u.restarts.starts) new ∙ ap (λ (r : RestartState). r.starts) fresh in
       subst (MayStart 0 slot) (sym is) (record {
         off = ap (λ (u : ServerSlot). u.doing) new;
         left = ap (λ (u : ServerSlot). u.gone) new;
@@ -77,10 +77,10 @@ busy_is (Busy life request) busy = refl
 busy_is _ busy = absurd busy
 
 -- its caller may make a call while it has a request in hand
-pub may_call : (slot : ServerSlot) (c : Calling) → Stands slot c.work → IsBusy slot.doing → MayCall c
+pub may_call : (slot : ServerSlot) (c : CallerState) → Stands slot c.work → IsBusy slot.doing → MayCall c
 unfolding doing
 may_call slot c stands busy =
-    let w : Standing = c.work in
+    let w : WorkState = c.work in
     let number = stands.tables.worker.number in
     let some = some_number slot.server.0 w.setup.servers _ stands.tables.worker.rule in
     let server : w.id.0 - w.clients ≡ slot.server.0 = omega (arith, number) in
@@ -90,7 +90,7 @@ may_call slot c stands busy =
 of_priority : (clients server : ℕ) (p : Prioritized) → p.by.0 ≡ clients + server → IsServers (record { 0 = server }) clients (Priority p)
 of_priority clients server p its = record { its = its; opens = λ caller. refl; closes = λ caller. refl; connects = λ caller. refl; disconnects = λ caller. refl }
 
-prioritized_stands : (slot : ServerSlot) (w : Standing) (p : Prioritized) (stamp : Stamp) → Stands slot w → p.by ≡ w.id → w.stamp.0 ≤ stamp.0 → Stands slot (noted (record { stamp = stamp; event = Priority p }) w)
+prioritized_stands : (slot : ServerSlot) (w : WorkState) (p : Prioritized) (stamp : Stamp) → Stands slot w → p.by ≡ w.id → w.stamp.0 ≤ stamp.0 → Stands slot (noted (record { stamp = stamp; event = Priority p }) w)
 prioritized_stands slot w p stamp stands by later =
     let t = stands.tables in
     let r = t.reads in
@@ -104,24 +104,24 @@ prioritized_stands slot w p stamp stands by later =
     }
 
 module _ (setup : Setup) (cells : Cells Filling) where
-  between_work : (c c' : Calling) → c' ≡ record c { work = c'.work } → c'.work.setup ≡ c.work.setup → IsBetween setup cells c → IsBetween setup cells c'
+  between_work : (c c' : CallerState) → c' ≡ record c { work = c'.work } → c'.work.setup ≡ c.work.setup → IsBetween setup cells c → IsBetween setup cells c'
   between_work c c' rest same b = record {
     its = same ∙ b.its;
-    idle = ap (λ (k : Calling). k.phase) rest ∙ b.idle;
-    seat = subst (IsSeatOf cells) (sym (ap (λ (k : Calling). k.seat) rest)) b.seat;
-    low = subst (λ n. n ≤ 256) (sym (ap (λ (k : Calling). k.least) rest)) b.low;
+    idle = ap (λ (k : CallerState). k.phase) rest ∙ b.idle;
+    seat = subst (IsSeatOf cells) (sym (ap (λ (k : CallerState). k.seat) rest)) b.seat;
+    low = subst (λ n. n ≤ 256) (sym (ap (λ (k : CallerState). k.least) rest)) b.low;
   }
 
-  pub taken : (entry : Entry Cargo) (x : Stamped) (slot slot' : ServerSlot) (c c' : Calling) → IsBetween setup cells c → IsTicketOf cells entry.cargo.ticket → slot' ≡ record slot { doing = Busy (life_in slot.doing) entry.request; hand = Some entry; last = lasts.Nothing }
+  pub taken : (entry : Entry Cargo) (x : Stamped) (slot slot' : ServerSlot) (c c' : CallerState) → IsBetween setup cells c → IsTicketOf cells entry.cargo.ticket → slot' ≡ record slot { doing = Busy (life_in slot.doing) entry.request; hand = Some entry; last = lasts.Nothing }
       → c'.work ≡ noted x c.work → Stands slot' c'.work → c' ≡ record c { work = c'.work } → Holds setup cells slot' c'
   taken entry x slot slot' c c' b ticket left made stands rest = record {
-    between = between_work c c' rest (ap (λ (w : Standing). w.setup) made) b;
+    between = between_work c c' rest (ap (λ (w : WorkState). w.setup) made) b;
     stands = stands;
     busy = subst IsBusy (sym (ap (λ (u : ServerSlot). u.doing) left)) tt;
     ticket = subst (λ o. IfSome o (λ (e : Entry Cargo). IsTicketOf cells e.cargo.ticket)) (sym (ap (λ (u : ServerSlot). u.hand) left)) ticket;
   }
 
-  pub priority_set : (op : ℕ) (absolute : Bool) (amount : ℤ) (stamp : Stamp) (slot : ServerSlot) (new old : Calling) → Holds setup cells slot old → SetsPriority op absolute amount stamp new old → Holds setup cells slot new
+  pub priority_set : (op : ℕ) (absolute : Bool) (amount : ℤ) (stamp : Stamp) (slot : ServerSlot) (new old : CallerState) → Holds setup cells slot old → SetsPriority op absolute amount stamp new old → Holds setup cells slot new
   priority_set op absolute amount stamp slot new old h s =
       let p : Prioritized = record { by = old.work.id; op = op; absolute = absolute; amount = amount } in
       let next = s.next in
@@ -138,25 +138,25 @@ module _ (setup : Setup) (cells : Cells Filling) where
   ticket_held None held = tt
   ticket_held (Some entry) held = held
 
-  closed_over : (hand : Option (Entry Cargo)) (closing : Closing) (slot : ServerSlot) (c : Calling) → IfSome hand (λ entry. IsTicketOf cells entry.cargo.ticket) → IsClosed hand closing c → IsSettled cells slot c → IsOver cells closing slot c
+  closed_over : (hand : Option (Entry Cargo)) (closing : Closing) (slot : ServerSlot) (c : CallerState) → IfSome hand (λ entry. IsTicketOf cells entry.cargo.ticket) → IsClosed hand closing c → IsSettled cells slot c → IsOver cells closing slot c
   closed_over hand closing slot c held closed settled =
       record { settled = settled; ticket = subst (λ o. IfSome o (IsTicketOf cells)) (sym closed.ticket) (ticket_held hand held); later = closed.later }
 
-  pub fails_over : (version : ℕ) (closing : Closing) (slot' slot : ServerSlot) (new old : Calling) → IsBetween setup cells old → IfSome slot.hand (λ entry. IsTicketOf cells entry.cargo.ticket) → Fails version closing slot' slot new old → Stands slot' new.work
+  pub fails_over : (version : ℕ) (closing : Closing) (slot' slot : ServerSlot) (new old : CallerState) → IsBetween setup cells old → IfSome slot.hand (λ entry. IsTicketOf cells entry.cargo.ticket) → Fails version closing slot' slot new old → Stands slot' new.work
       → IsOver cells closing slot' new
   fails_over version closing slot' slot new old b held f stands =
       closed_over slot.hand closing slot' new held (finish_closed (BadForward version) closing slot' slot new old.work f.finishes) (record {
         stands = stands;
         doing = inl (subst IsIdle (sym (ap (λ (u : ServerSlot). u.doing) f.finishes.left ∙ ap (λ (u : ServerSlot). u.doing) f.finishes.ends.left)) tt);
         free = ap (λ (u : ServerSlot). u.hand) f.finishes.left;
-        idle = ap (λ (k : Calling). k.phase) f.rest ∙ b.idle;
-        seat = subst (IsSeatOf cells) (sym (ap (λ (k : Calling). k.seat) f.rest)) b.seat;
+        idle = ap (λ (k : CallerState). k.phase) f.rest ∙ b.idle;
+        seat = subst (IsSeatOf cells) (sym (ap (λ (k : CallerState). k.seat) f.rest)) b.seat;
       })
 
   ticket_of : (hand : Option (Entry Cargo)) (held : Entry Cargo) → hand ≡ Some held → IfSome hand (λ entry. IsTicketOf cells entry.cargo.ticket) → IsTicketOf cells held.cargo.ticket
   ticket_of hand held is all = subst (λ o. IfSome o (λ entry. IsTicketOf cells entry.cargo.ticket)) is all
 
-  pub leaves_out : (version : ℕ) (payload : Data) (way : Result Row ℕ) (f : Forwarding) (slot' slot : ServerSlot) (new old : Calling) → Holds setup cells slot old → ForwardsAs version payload way f slot' slot new old → LeftBy (Ok f) slot' new → LeavesOut setup cells f slot' new
+  pub leaves_out : (version : ℕ) (payload : Data) (way : Result Row ℕ) (f : Forwarding) (slot' slot : ServerSlot) (new old : CallerState) → Holds setup cells slot old → ForwardsAs version payload way f slot' slot new old → LeftBy (Ok f) slot' new → LeavesOut setup cells f slot' new
   leaves_out version payload (Ok row) (On entry event) slot' slot new old h p left = record {
     between = subst (IsBetween setup cells) (sym p.same) h.between;
     way = left;
@@ -168,7 +168,7 @@ module _ (setup : Setup) (cells : Cells Filling) where
 
   -- ---- another aim
 
-  module _ (named : List ℕ) (found : FoundRows) (entry : Entry Cargo) (event : Event) (slot : ServerSlot) (c : Calling) (out : IsOut setup cells entry event slot c) (rows : AreFor setup named found) where
+  module _ (named : List ℕ) (found : FoundRows) (entry : Entry Cargo) (event : Event) (slot : ServerSlot) (c : CallerState) (out : IsOut setup cells entry event slot c) (rows : AreFor setup named found) where
     on_way : (aimed : Aimed) → ((e : Event) (service : List ℕ) → IsOnWay entry e slot c → AreRowsOf c.work.setup service found.rows → c.least ≤ found.version → StaysOnWay e slot c aimed) → StaysOnWay event slot c aimed
     on_way aimed stays =
         let version = rows.version in
@@ -187,7 +187,7 @@ module _ (setup : Setup) (cells : Cells Filling) where
   -- ---- a death
 
   -- the request was taken in hand again, and the life ended
-  pub death_over : (cause : StopCause) (entry : Entry Cargo) (event : Event) (closing : Closing) (slot'' slot' slot : ServerSlot) (new old : Calling) → IsOut setup cells entry event slot old → slot' ≡ record slot { hand = Some entry } → new ≡ record old { work = new.work } → Stands slot'' new.work
+  pub death_over : (cause : StopCause) (entry : Entry Cargo) (event : Event) (closing : Closing) (slot'' slot' slot : ServerSlot) (new old : CallerState) → IsOut setup cells entry event slot old → slot' ≡ record slot { hand = Some entry } → new ≡ record old { work = new.work } → Stands slot'' new.work
       → DiesFrom slot'.doing cause closing slot'' slot' new.work old.work → IsOver cells closing slot'' new
   death_over cause entry event closing slot'' slot' slot new old out back rest stands dies =
       let busy : IsBusy slot'.doing = subst IsBusy (sym (ap (λ (u : ServerSlot). u.doing) back ∙ out.way.busy)) tt in
@@ -197,8 +197,8 @@ module _ (setup : Setup) (cells : Cells Filling) where
         stands = stands;
         doing = inr (ap (λ (u : ServerSlot). u.doing) d.stops.left);
         free = ap (λ (u : ServerSlot). u.hand) d.stops.left;
-        idle = ap (λ (k : Calling). k.phase) rest ∙ out.between.idle;
-        seat = subst (IsSeatOf cells) (sym (ap (λ (k : Calling). k.seat) rest)) out.between.seat;
+        idle = ap (λ (k : CallerState). k.phase) rest ∙ out.between.idle;
+        seat = subst (IsSeatOf cells) (sym (ap (λ (k : CallerState). k.seat) rest)) out.between.seat;
       })
 
 -- a life that is under way behind a request waits for the next

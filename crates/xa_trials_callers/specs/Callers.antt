@@ -12,7 +12,7 @@ use Rattle.xa_caller.specs.declared.phase.Draft.{Draft}
 use Rattle.xa_caller.specs.declared.phase.Phase.TheVariants.{Idle, Prepared}
 use Rattle.xa_caller.specs.Drafts.{Cargo}
 use Rattle.xa_caller.specs.Phases.{IsSent}
-use Rattle.xa_caller.specs.Caller.{Standing, AreRowsOf}
+use Rattle.xa_caller.specs.Caller.{CallerState, AreRowsOf}
 
 -- these are of a client of that setup whose last call had that number: its setup, how many clients there are, its own number, that of its last
 -- call, and the least version that it may read
@@ -22,15 +22,15 @@ pub record IsClient (setup : Setup) (last : ℕ) (its : Setup) (clients id op le
   pub number : op ≡ last
   pub low : least ≤ 256
 
-abbrev pub Stands : Setup → ℕ → Standing → Type 0
+abbrev pub Stands : Setup → ℕ → CallerState → Type 0
 Stands setup last c = IsClient setup last c.work.setup c.work.clients c.work.id.0 c.op c.least
 
 -- its seat is one of these cells, and it may make its next call
-abbrev pub Rests : Setup → Cells Filling → ℕ → Standing → Type 0
+abbrev pub Rests : Setup → Cells Filling → ℕ → CallerState → Type 0
 Rests setup cells last c = IsSeatOf cells c.seat × Stands setup last c × (c.phase ≡ Idle)
 
 -- that entry is to be put on one of the queues that were found, for its next call
-pub record HasDraft (setup : Setup) (cells : Cells Filling) (last : ℕ) (found : FoundRows) (entry : Entry Cargo) (c : Standing) : Type 0 where
+pub record HasDraft (setup : Setup) (cells : Cells Filling) (last : ℕ) (found : FoundRows) (entry : Entry Cargo) (c : CallerState) : Type 0 where
   pub seat : IsSeatOf cells c.seat
   pub stands : Stands setup last c
   pub draft : Draft
@@ -44,9 +44,9 @@ pub record HasDraft (setup : Setup) (cells : Cells Filling) (last : ℕ) (found 
   pub ticket : IsTicketOf cells entry.cargo.ticket
 
 -- the answer to its request is to come
-abbrev pub IsOut : Setup → Cells Filling → ℕ → Standing → Type 0
+abbrev pub IsOut : Setup → Cells Filling → ℕ → CallerState → Type 0
 IsOut setup cells last c = IsSeatOf cells c.seat × Stands setup last c × IsSent c.phase
 
 -- that entry was put on a queue, and its ticket isn't spent
-abbrev pub Awaits : Setup → Cells Filling → ℕ → Entry Cargo → Standing → Type 0
+abbrev pub Awaits : Setup → Cells Filling → ℕ → Entry Cargo → CallerState → Type 0
 Awaits setup cells last entry c = IsOut setup cells last c × IsTicketOf cells entry.cargo.ticket

@@ -15,7 +15,7 @@ use Rattle.xa_cell.specs.Known.{known, IsSeatOf, IsTicketOf}
 use Rattle.xa_cell.specs.Places.{OpenAre}
 use Rattle.xa_caller.specs.declared.cargo.Filling.{Filling}
 use Rattle.xa_caller.specs.declared.phase.Phase.TheVariants.{Idle}
-use Rattle.xa_caller.specs.Caller.{Standing as Calling, AreRowsOf}
+use Rattle.xa_caller.specs.Caller.{CallerState, AreRowsOf}
 use Rattle.xa_caller.specs.Drafts.{Cargo}
 use Rattle.xa_server.specs.declared.closing.Closing.{Closing}
 use Rattle.xa_server.specs.declared.forwarding.Forwarding.{Forwarding}
@@ -26,33 +26,33 @@ use Rattle.xa_server.specs.Forwarding.{IsOnWay}
 use Rattle.xa_server.specs.Slot.{Stands}
 
 -- the caller is of that setup, its seat of these cells, it has no call under way, and it read no version past 256
-pub record IsBetween (setup : Setup) (cells : Cells Filling) (c : Calling) : Type 0 where
+pub record IsBetween (setup : Setup) (cells : Cells Filling) (c : CallerState) : Type 0 where
   pub its : c.work.setup ≡ setup
   pub idle : c.phase ≡ Idle
   pub seat : IsSeatOf cells c.seat
   pub low : c.least ≤ 256
 
 -- a life waits for a request
-pub record Waits (setup : Setup) (cells : Cells Filling) (slot : ServerSlot) (c : Calling) : Type 0 where
+pub record Waits (setup : Setup) (cells : Cells Filling) (slot : ServerSlot) (c : CallerState) : Type 0 where
   pub between : IsBetween setup cells c
   pub stands : Stands slot c.work
   pub free : IsIdle slot.doing
 
 -- a request is in hand
-pub record Holds (setup : Setup) (cells : Cells Filling) (slot : ServerSlot) (c : Calling) : Type 0 where
+pub record Holds (setup : Setup) (cells : Cells Filling) (slot : ServerSlot) (c : CallerState) : Type 0 where
   pub between : IsBetween setup cells c
   pub stands : Stands slot c.work
   pub busy : IsBusy slot.doing
   pub ticket : IfSome slot.hand (λ entry. IsTicketOf cells entry.cargo.ticket)
 
 -- the request is out, to be put on a queue by that event
-pub record IsOut (setup : Setup) (cells : Cells Filling) (entry : Entry Cargo) (event : Event) (slot : ServerSlot) (c : Calling) : Type 0 where
+pub record IsOut (setup : Setup) (cells : Cells Filling) (entry : Entry Cargo) (event : Event) (slot : ServerSlot) (c : CallerState) : Type 0 where
   pub between : IsBetween setup cells c
   pub way : IsOnWay entry event slot c
   pub ticket : IsTicketOf cells entry.cargo.ticket
 
 -- nothing is in hand: a life waits, or none is under way
-pub record IsSettled (cells : Cells Filling) (slot : ServerSlot) (c : Calling) : Type 0 where
+pub record IsSettled (cells : Cells Filling) (slot : ServerSlot) (c : CallerState) : Type 0 where
   pub stands : Stands slot c.work
   pub doing : IsIdle slot.doing ⊎ (slot.doing ≡ Off)
   pub free : slot.hand ≡ None
@@ -60,12 +60,12 @@ pub record IsSettled (cells : Cells Filling) (slot : ServerSlot) (c : Calling) :
   pub seat : IsSeatOf cells c.seat
 
 -- so it is, and the caller of the request is to be told that, no later than the server's last event
-pub record IsOver (cells : Cells Filling) (closing : Closing) (slot : ServerSlot) (c : Calling) : Type 0 where
+pub record IsOver (cells : Cells Filling) (closing : Closing) (slot : ServerSlot) (c : CallerState) : Type 0 where
   pub settled : IsSettled cells slot c
   pub ticket : IfSome closing.ticket (IsTicketOf cells)
   pub later : closing.stamp.0 ≤ last_stamp no_stamp c.work.own
 
-abbrev pub LeavesOut : Setup → Cells Filling → Forwarding → ServerSlot → Calling → Type 0
+abbrev pub LeavesOut : Setup → Cells Filling → Forwarding → ServerSlot → CallerState → Type 0
 LeavesOut setup cells (On entry event) slot c = IsOut setup cells entry event slot c
 LeavesOut setup cells (Failed closing) slot c = IsOver cells closing slot c
 
@@ -87,6 +87,6 @@ ticket_in None = None
 ticket_in (Some entry) = Some entry.cargo.ticket
 
 -- it closes the request that was in hand, no later than the caller's last event
-pub record IsClosed (hand : Option (Entry Cargo)) (closing : Closing) (c : Calling) : Type 0 where
+pub record IsClosed (hand : Option (Entry Cargo)) (closing : Closing) (c : CallerState) : Type 0 where
   pub ticket : closing.ticket ≡ ticket_in hand
   pub later : closing.stamp.0 ≤ last_stamp no_stamp c.work.own

@@ -22,7 +22,7 @@ use Rattle.xa_queue.specs.declared.told.Outgoing.{Outgoing}
 use Rattle.xa_queue.specs.declared.queue.PutRefused.{PutRefused}
 use Rattle.xa_queue.specs.declared.queue.Taken.{Taken}
 use Rattle.xa_queue.specs.declared.queue.Taken.TheVariants.{Request, Empty, Closed}
-use Rattle.xa_queue.specs.Queue.{Standing, IsSound, gives_up, has_server, all_gone, past_of}
+use Rattle.xa_queue.specs.Queue.{QueueState, IsSound, gives_up, has_server, all_gone, past_of}
 use Rattle.xa_queue.specs.Changes.{opened}
 use Rattle.xa_held.specs.declared.cargo.Cargo.{Cargo}
 use Rattle.xa_held.specs.declared.kept_queue.QueueNote.{QueueNote}
@@ -39,9 +39,9 @@ events_noted [] = refl
 events_noted (m ∷ entries) = ap (λ (l : List Event). m.noted.event ∷ l) (events_noted entries)
 
 -- the queue as it is made
-pub made_serves : (cells : Cells ℕ) (n : ℕ) (queue : Standing (Cargo ℕ)) (kept : Kept ℕ) → queue ≡ opened (record { 0 = n }) 3 (one ∷ []) (record { 0 = 0 }) → kept ≡ record { queue = queue; clients = 1; cells = cells } → Serves cells n kept
+pub made_serves : (cells : Cells ℕ) (n : ℕ) (queue : QueueState (Cargo ℕ)) (kept : Kept ℕ) → queue ≡ opened (record { 0 = n }) 3 (one ∷ []) (record { 0 = 0 }) → kept ≡ record { queue = queue; clients = 1; cells = cells } → Serves cells n kept
 made_serves cells n queue kept made is =
-    let fresh : Standing (Cargo ℕ) → Kept ℕ = λ q. record { queue = q; clients = 1; cells = cells } in
+    let fresh : QueueState (Cargo ℕ) → Kept ℕ = λ q. record { queue = q; clients = 1; cells = cells } in
     subst (Serves cells n) (sym (is ∙ ap fresh made)) (record { is = refl; others = All-cons (IsOther one) (Opened (setting cells n)) [] tt (All-nil (IsOther one)) })
 
 none : All (IsOther {A = ℕ} one) []

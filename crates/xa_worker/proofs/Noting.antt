@@ -20,10 +20,10 @@ use Rattle.xa_stamp.proofs.Stamps.{Rises-push}
 use Rattle.xa_worker.specs.Seen.{past_in}
 use Rattle.xa_worker.specs.Crew.{no_stamp, MayNote, IsOfDomain, stands_at}
 use Rattle.xa_worker.proofs.Lists.{filter-yes, filter-no, past_in-append, map-reverse}
-use Rattle.xa_worker.specs.Work.{Standing, IsSound, IsNext, theirs, noted}
+use Rattle.xa_worker.specs.Work.{WorkState, IsSound, IsNext, theirs, noted}
 
 -- one event more is the worker's
-pub theirs-more : (w : Standing) (x : Stamped) → worker_of w.clients x.event ≡ w.id.0 → theirs (noted x w) ≡ x.event ∷ theirs w
+pub theirs-more : (w : WorkState) (x : Stamped) → worker_of w.clients x.event ≡ w.id.0 → theirs (noted x w) ≡ x.event ∷ theirs w
 theirs-more w x its =
     ap (worker_events w.clients w.id.0) (past_in-append w.own (x ∷ [])) ∙ filter-yes (of_worker w.clients w.id.0) x.event (past_in w.own) (eq-eqb (worker_of w.clients x.event) w.id.0 its)
 
@@ -36,12 +36,12 @@ not_theirs clients worker (Down queue) some d = ne_eqb 0 worker (λ same. absurd
 not_theirs clients worker (Close queue) some d = ne_eqb 0 worker (λ same. absurd (omega (arith, same)))
 not_theirs clients worker _ some d = absurd d
 
-pub theirs-same : (w : Standing) (x : Stamped) → 0 < w.id.0 → IsOfDomain x.event → theirs (noted x w) ≡ theirs w
+pub theirs-same : (w : WorkState) (x : Stamped) → 0 < w.id.0 → IsOfDomain x.event → theirs (noted x w) ≡ theirs w
 theirs-same w x some domain =
     ap (worker_events w.clients w.id.0) (past_in-append w.own (x ∷ [])) ∙ filter-no (of_worker w.clients w.id.0) x.event (past_in w.own) (not_theirs w.clients w.id.0 x.event some domain)
 
 -- what holds of the work still does with an event of the worker's more
-pub sound-noted : (w : Standing) (x : Stamped) → IsSound w → 0 < w.id.0 → last_stamp no_stamp w.own < x.stamp.0 → x.stamp.0 ≤ 2 ^ 63 → IsNext w x.event → IsSound (noted x w)
+pub sound-noted : (w : WorkState) (x : Stamped) → IsSound w → 0 < w.id.0 → last_stamp no_stamp w.own < x.stamp.0 → x.stamp.0 ≤ 2 ^ 63 → IsNext w x.event → IsSound (noted x w)
 sound-noted w x sound some later bound next = record {
   rises = Rises-push no_stamp w.own x sound.rises later bound;
   may = All-push (λ (y : Stamped). MayNote w.clients w.id.0 y.event) w.own x sound.may (inl (some, next.its));
@@ -49,7 +49,7 @@ sound-noted w x sound some later bound next = record {
 }
 
 -- and with one of the domain's
-pub sound_for_domain : (w : Standing) (x : Stamped) → IsSound w → 0 < w.id.0 → last_stamp no_stamp w.own < x.stamp.0 → x.stamp.0 ≤ 2 ^ 63 → IsOfDomain x.event → IsSound (noted x w)
+pub sound_for_domain : (w : WorkState) (x : Stamped) → IsSound w → 0 < w.id.0 → last_stamp no_stamp w.own < x.stamp.0 → x.stamp.0 ≤ 2 ^ 63 → IsOfDomain x.event → IsSound (noted x w)
 sound_for_domain w x sound some later bound domain = record {
   rises = Rises-push no_stamp w.own x sound.rises later bound;
   may = All-push (λ (y : Stamped). MayNote w.clients w.id.0 y.event) w.own x sound.may (inr domain);

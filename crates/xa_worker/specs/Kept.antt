@@ -5,9 +5,9 @@ use Rattle.xa_events.specs.Homes.Home.{CallerHome}
 use Rattle.xa_stamp.specs.Home.{last_stamp}
 use Rattle.xa_worker.specs.Crew.{no_stamp, stands_at}
 use Rattle.xa_worker.specs.declared.work.Work.TheInside.{Inside}
-use Rattle.xa_worker.specs.Work.{Standing, IsSound}
+use Rattle.xa_worker.specs.Work.{WorkState, IsSound}
 
-abbrev pub standing_of : Inside → Standing
+abbrev pub standing_of : Inside → WorkState
 standing_of w = record { setup = w.setup.value; clients = w.clients; id = w.id; stamp = w.stamp; own = w.own; room = w.room }
 
 pub record IsKept (w : Inside) : Type 0 where

@@ -10,13 +10,13 @@ ghost use Rattle.xa_stamp.specs.declared.home.Stamped.{Stamped};
 ghost use Rattle.xa_worker.specs.Seen.{past_in, SawFronts, WasTold, IsBehind};
 ghost use Rattle.xa_worker.specs.Crew.{IsWork, TellsEach};
 ghost use Rattle.xa_worker.specs.Calls.{FitsTurn};
-ghost use Rattle.xa_worker.specs.Work.{Standing, IsSound, noted};
+ghost use Rattle.xa_worker.specs.Work.{WorkState, IsSound, noted};
 ghost use Rattle.xa_worker.specs.Going.{FitEach};
 
 /// What a worker noted is its work also with one event more, by what holds of every `Work`, where the event came behind the
 /// boot and the fronts that it rests on were seen.
 pub fn work_is_work()
-    ensures { (last : Stamp) (seen : Home → List Stamped) (old : Standing) (x : Stamped) → IsWork old.setup old.clients last seen old.id.0 old.own → IsSound (noted x old)
+    ensures { (last : Stamp) (seen : Home → List Stamped) (old : WorkState) (x : Stamped) → IsWork old.setup old.clients last seen old.id.0 old.own → IsSound (noted x old)
         → IsBehind last x.stamp x.event → SawFronts old.setup old.clients seen x.stamp x.event (past_in old.own) → IsWork old.setup old.clients last seen old.id.0 (noted x old).own }
 {}
 

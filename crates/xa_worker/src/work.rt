@@ -39,9 +39,9 @@ pub struct Work {
 }
 
 impl Model for Work {
-    ghost use Rattle.xa_worker.specs.Work.{Standing};
+    ghost use Rattle.xa_worker.specs.Work.{WorkState};
 
-    ghost Value = { Standing };
+    ghost Value = { WorkState };
 
     ghost use Rattle.xa_worker.specs.Kept.{standing_of, IsKept};
 

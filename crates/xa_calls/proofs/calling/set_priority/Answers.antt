@@ -15,34 +15,34 @@ use Rattle.xa_calls.proofs.calling.set_priority.Goals as goal
 above : (op before : ℕ) → op ≡ before + 1 → 0 < op
 above op before turn = omega (arith, turn)
 
-pub returns-in-Ok-clause-goes : goal.returns-in-Ok-clause-goes
-returns-in-Ok-clause-goes c =
+pub returns-clause-goes : goal.returns-clause-goes
+returns-clause-goes g c =
     let desk = c.args.desk.now in
     let new = c.set_priority.new.self in
     let set = c.set_priority.ensures in
-    let d = c.args.domain.now in
+    let d = c.args.monitor.now.domain.now in
     let amount : ℤ = to_z w32 (of_z w32 c.args.amount) in
     performs_by d c.args.op (Priority c.args.absolute c.args.amount) desk new set.leads (subst (λ (z : ℤ). FitsOp d c.args.op (Priority c.args.absolute z) desk new) (to_z-of_z c.ranges.amount) set.fits)
     (set_same c.args.op c.args.absolute amount c.set_priority.result desk new set.set set.kept) (set_fills c.args.op c.args.absolute amount c.set_priority.result desk new set.set set.kept) (ap (λ (desk : Desk). desk.board) set.rest)
     (set_noted (LookShowed desk new) (SawFull d desk new) c.args.op c.args.absolute amount c.set_priority.result desk new set.set set.kept)
 
-pub returns-in-Err-clause-goes : goal.returns-in-Err-clause-goes
-returns-in-Err-clause-goes c =
+pub returns-in_err-set_priority-clause-goes : goal.returns-in_err-set_priority-clause-goes
+returns-in_err-set_priority-clause-goes g c =
     let desk = c.args.desk.now in
     let new = c.set_priority.new.self in
     let set = c.set_priority.ensures in
-    let d = c.args.domain.now in
+    let d = c.args.monitor.now.domain.now in
     let amount : ℤ = to_z w32 (of_z w32 c.args.amount) in
     performs_by d c.args.op (Priority c.args.absolute c.args.amount) desk new set.leads (subst (λ (z : ℤ). FitsOp d c.args.op (Priority c.args.absolute z) desk new) (to_z-of_z c.ranges.amount) set.fits)
     (set_same c.args.op c.args.absolute amount c.set_priority.result desk new set.set set.kept) (set_fills c.args.op c.args.absolute amount c.set_priority.result desk new set.set set.kept) (ap (λ (desk : Desk). desk.board) set.rest)
     (set_noted (LookShowed desk new) (SawFull d desk new) c.args.op c.args.absolute amount c.set_priority.result desk new set.set set.kept)
 
-pub returns-in-Ok-clause-notes : goal.returns-in-Ok-clause-notes
-returns-in-Ok-clause-notes c = inl (sets_one c.args.op c.args.absolute (to_z w32 (of_z w32 c.args.amount)) c.in-Ok.field-0 c.args.desk.now c.set_priority.new.self (above c.args.op c.args.desk.now.caller.op c.requires.turn) c.in-Ok.ensures.set)
+pub returns-clause-notes : goal.returns-clause-notes
+returns-clause-notes g c = inl (sets_one c.args.op c.args.absolute (to_z w32 (of_z w32 c.args.amount)) c.in_ok-set_priority.field-0 c.args.desk.now c.set_priority.new.self (above c.args.op c.args.desk.now.caller.op c.requires.turn) c.in_ok-set_priority.ensures.set)
 
-pub returns-in-Ok-clause-active : goal.returns-in-Ok-clause-active
-returns-in-Ok-clause-active c =
+pub returns-clause-active : goal.returns-clause-active
+returns-clause-active g c =
     let old = c.args.desk.now in
     let new = c.set_priority.new.self in
     may_on c.args.op Closes old new (set_same c.args.op c.args.absolute (to_z w32 (of_z w32 c.args.amount)) c.set_priority.result old new c.set_priority.ensures.set c.set_priority.ensures.kept)
-    (sets_one c.args.op c.args.absolute (to_z w32 (of_z w32 c.args.amount)) c.in-Ok.field-0 old new (above c.args.op old.caller.op c.requires.turn) c.in-Ok.ensures.set) c.requires.active
+    (sets_one c.args.op c.args.absolute (to_z w32 (of_z w32 c.args.amount)) c.in_ok-set_priority.field-0 old new (above c.args.op old.caller.op c.requires.turn) c.in_ok-set_priority.ensures.set) c.requires.active

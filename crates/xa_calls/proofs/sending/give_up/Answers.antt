@@ -7,7 +7,7 @@ use Rattle.xa_calls.proofs.Trying.{unsent_same, unsent_tries}
 use Rattle.xa_calls.proofs.sending.give_up.Goals as goal
 
 pub returns-clause-goes : goal.returns-clause-goes
-returns-clause-goes c = record {
+returns-clause-goes g c = record {
   leads = c.unsent.ensures.leads;
   fits = c.unsent.ensures.fits c.args.ask.now c.requires.valid refl c.requires.found;
   same = unsent_same c.args.entry.cargo.ticket.cell c.args.why c.args.ask.now.flags.no_block c.unsent.result c.args.desk.now c.unsent.new.self c.unsent.ensures.unsent;
@@ -15,19 +15,19 @@ returns-clause-goes c = record {
 }
 
 pub returns-clause-tries : goal.returns-clause-tries
-returns-clause-tries c =
+returns-clause-tries g c =
     let aimed = c.requires.aimed in
-    unsent_tries c.args.domain.now c.args.ask.now.payload c.args.entry.cargo.ticket.cell c.args.why c.args.ask.now.flags.no_block c.unsent.result c.args.entry aimed.0 c.args.desk.now c.unsent.new.self aimed.1 c.unsent.ensures.unsent c.unsent.ensures.rest
+    unsent_tries c.args.monitor.now.domain.now c.args.ask.now.payload c.args.entry.cargo.ticket.cell c.args.why c.args.ask.now.flags.no_block c.unsent.result c.args.entry aimed.0 c.args.desk.now c.unsent.new.self aimed.1 c.unsent.ensures.unsent c.unsent.ensures.rest
 
 pub returns-clause-notes : goal.returns-clause-notes
-returns-clause-notes c =
+returns-clause-notes g c =
     let old = c.args.desk.now in
     let aimed = c.requires.aimed.1 in
     subst (λ r. TriedNotes (old.caller.op + 1) r old c.unsent.new.self) (sym c.tried_by.ensures)
     (unsent_notes (old.caller.op + 1) c.args.entry.cargo.ticket.cell c.args.why c.args.ask.now.flags.no_block c.unsent.result old c.unsent.new.self aimed.draft (omega arith) aimed.prepared aimed.turn c.unsent.ensures.unsent)
 
 pub returns-clause-active : goal.returns-clause-active
-returns-clause-active c =
+returns-clause-active g c =
     let old = c.args.desk.now in
     let aimed = c.requires.aimed.1 in
     may_tried (old.caller.op + 1) (tried_by c.unsent.result) old c.unsent.new.self

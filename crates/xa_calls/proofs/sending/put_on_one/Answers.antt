@@ -16,16 +16,16 @@ no_more : (a n : ℕ) → n ≡ min (a + 1) (2 ^ 32 - 1) → n ≤ a + 1
 no_more a n is = omega (arith, is)
 
 pub returns-in-Ok-clause-goes : goal.returns-in-Ok-clause-goes
-returns-in-Ok-clause-goes g c = let sent = c.in-Ok.ensures in sends_on c.args.domain.now c.args.ask.now c.args.desk.now c.loop.desk c.send.new.self sent.sent.0 c.loop.invariant.on sent.leads (sent.fits c.args.ask.now c.requires.valid c.loop.invariant.tried.found c.loop.invariant.tried.aimed) sent.sent.1
+returns-in-Ok-clause-goes g c = let sent = c.in-Ok.ensures in sends_on c.args.monitor.now.domain.now c.args.ask.now c.args.desk.now c.loop.desk c.send.new.self sent.sent.0 c.loop.invariant.on sent.leads (sent.fits c.args.ask.now c.requires.valid c.loop.invariant.tried.found c.loop.invariant.tried.aimed) sent.sent.1
 
 pub returns-in-Ok-clause-tries : goal.returns-in-Ok-clause-tries
 returns-in-Ok-clause-tries g c =
     let sent = c.in-Ok.ensures in
-    sent_tries c.args.domain.now c.args.ask.now c.args.desk.now (SawFull c.args.domain.now c.args.desk.now c.send.new.self) c.loop.prepared.entry c.loop.prepared.event sent.sent.0 c.loop.desk c.send.new.self c.loop.invariant.on c.loop.invariant.tried.aimed sent.sent.1 sent.board
+    sent_tries c.args.monitor.now.domain.now c.args.ask.now c.args.desk.now (SawFull c.args.monitor.now.domain.now c.args.desk.now c.send.new.self) c.loop.prepared.entry c.loop.prepared.event sent.sent.0 c.loop.desk c.send.new.self c.loop.invariant.on c.loop.invariant.tried.aimed sent.sent.1 sent.board
 
 pub returns-in-Err-full_by-clause-tries : goal.returns-in-Err-full_by-clause-tries
 returns-in-Err-full_by-clause-tries g c =
-    let d = c.args.domain.now in
+    let d = c.args.monitor.now.domain.now in
     let ask = c.args.ask.now in
     let sent = c.in-Err.ensures in
     let i = c.loop.invariant in
@@ -33,13 +33,13 @@ returns-in-Err-full_by-clause-tries g c =
     tries_on d ask c.args.desk.now _ (SawFull d c.args.desk.now c.give_up.new.desk) c.send.new.self c.give_up.new.desk back (λ one never. absurd (cc never)) c.give_up.ensures.tries
 
 pub send-requires-clause-active : goal.send-requires-clause-active
-send-requires-clause-active g c = on_may c.args.domain.now c.args.ask.now c.args.desk.now c.loop.desk c.loop.invariant.on c.requires.active
+send-requires-clause-active g c = on_may c.args.monitor.now.domain.now c.args.ask.now c.args.desk.now c.loop.desk c.loop.invariant.on c.requires.active
 
 pub returns-in-Ok-clause-notes : goal.returns-in-Ok-clause-notes
 returns-in-Ok-clause-notes g c =
     let i = c.loop.invariant in
     let p = c.loop.prepared in
-    sends_notes c.args.domain.now c.args.ask.now c.args.desk.now c.loop.desk.reader.found p.entry p.event c.in-Ok.ensures.sent.0 c.loop.desk c.send.new.self i.on i.tried.aimed i.its c.in-Ok.ensures.sent.1
+    sends_notes c.args.monitor.now.domain.now c.args.ask.now c.args.desk.now c.loop.desk.reader.found p.entry p.event c.in-Ok.ensures.sent.0 c.loop.desk c.send.new.self i.on i.tried.aimed i.its c.in-Ok.ensures.sent.1
 
 pub returns-in-Ok-clause-active : goal.returns-in-Ok-clause-active
 returns-in-Ok-clause-active g c =
@@ -47,24 +47,24 @@ returns-in-Ok-clause-active g c =
     let p = c.loop.prepared in
     let sent = c.in-Ok.ensures in
     may_on (c.args.desk.now.caller.op + 1) Accepts c.args.desk.now c.send.new.self
-    (sends_on c.args.domain.now c.args.ask.now c.args.desk.now c.loop.desk c.send.new.self sent.sent.0 i.on sent.leads (sent.fits c.args.ask.now c.requires.valid i.tried.found i.tried.aimed) sent.sent.1).same
-    (sends_notes c.args.domain.now c.args.ask.now c.args.desk.now c.loop.desk.reader.found p.entry p.event sent.sent.0 c.loop.desk c.send.new.self i.on i.tried.aimed i.its sent.sent.1) c.requires.active
+    (sends_on c.args.monitor.now.domain.now c.args.ask.now c.args.desk.now c.loop.desk c.send.new.self sent.sent.0 i.on sent.leads (sent.fits c.args.ask.now c.requires.valid i.tried.found i.tried.aimed) sent.sent.1).same
+    (sends_notes c.args.monitor.now.domain.now c.args.ask.now c.args.desk.now c.loop.desk.reader.found p.entry p.event sent.sent.0 c.loop.desk c.send.new.self i.on i.tried.aimed i.its sent.sent.1) c.requires.active
 
 pub give_up-requires-clause-active : goal.give_up-requires-clause-active
 give_up-requires-clause-active g c =
-    let d = c.args.domain.now in
+    let d = c.args.monitor.now.domain.now in
     let ask = c.args.ask.now in
     on_may d ask c.args.desk.now c.send.new.self (back_on d ask c.args.desk.now c.loop.desk c.send.new.self c.loop.invariant.on c.in-Err.ensures.leads c.in-Err.ensures.kept c.in-Err.ensures.reader c.in-Err.ensures.board) c.requires.active
 
 pub returns-in-Err-full_by-clause-notes : goal.returns-in-Err-full_by-clause-notes
 returns-in-Err-full_by-clause-notes g c =
-    let d = c.args.domain.now in
+    let d = c.args.monitor.now.domain.now in
     let ask = c.args.ask.now in
     ends_notes d ask c.args.desk.now c.send.new.self c.give_up.new.desk c.give_up.result (back_on d ask c.args.desk.now c.loop.desk c.send.new.self c.loop.invariant.on c.in-Err.ensures.leads c.in-Err.ensures.kept c.in-Err.ensures.reader c.in-Err.ensures.board) c.give_up.ensures.notes
 
 pub give_up-requires-clause-found : goal.give_up-requires-clause-found
 give_up-requires-clause-found g c =
-    let d = c.args.domain.now in
+    let d = c.args.monitor.now.domain.now in
     let ask = c.args.ask.now in
     let sent = c.in-Err.ensures in
     let u = c.in-Err.unsent in
@@ -74,7 +74,7 @@ give_up-requires-clause-found g c =
 
 pub give_up-requires-clause-aimed : goal.give_up-requires-clause-aimed
 give_up-requires-clause-aimed g c =
-    let d = c.args.domain.now in
+    let d = c.args.monitor.now.domain.now in
     let ask = c.args.ask.now in
     let sent = c.in-Err.ensures in
     let u = c.in-Err.unsent in
@@ -83,11 +83,11 @@ give_up-requires-clause-aimed g c =
     (p.event, aimed_back d ask c.loop.desk c.send.new.self sent.leads sent.kept sent.reader p.entry u.entry p.event sent.back i.tried.aimed)
 
 pub returns-in-Err-full_by-clause-goes : goal.returns-in-Err-full_by-clause-goes
-returns-in-Err-full_by-clause-goes g c = ends_on c.args.domain.now c.args.ask.now c.args.desk.now c.send.new.self c.give_up.new.desk (back_on c.args.domain.now c.args.ask.now c.args.desk.now c.loop.desk c.send.new.self c.loop.invariant.on c.in-Err.ensures.leads c.in-Err.ensures.kept c.in-Err.ensures.reader c.in-Err.ensures.board) c.give_up.ensures.goes
+returns-in-Err-full_by-clause-goes g c = ends_on c.args.monitor.now.domain.now c.args.ask.now c.args.desk.now c.send.new.self c.give_up.new.desk (back_on c.args.monitor.now.domain.now c.args.ask.now c.args.desk.now c.loop.desk c.send.new.self c.loop.invariant.on c.in-Err.ensures.leads c.in-Err.ensures.kept c.in-Err.ensures.reader c.in-Err.ensures.board) c.give_up.ensures.goes
 
 pub aim-requires-clause-found : goal.aim-requires-clause-found
 aim-requires-clause-found g c =
-    let d = c.args.domain.now in
+    let d = c.args.monitor.now.domain.now in
     let ask = c.args.ask.now in
     let sent = c.in-Err.ensures in
     let u = c.in-Err.unsent in
@@ -97,7 +97,7 @@ aim-requires-clause-found g c =
 
 pub give_up-requires-in-Past-clause-found : goal.give_up-requires-in-Past-clause-found
 give_up-requires-in-Past-clause-found g c =
-    let d = c.args.domain.now in
+    let d = c.args.monitor.now.domain.now in
     let ask = c.args.ask.now in
     let sent = c.in-Err.ensures in
     let u = c.in-Err.unsent in
@@ -113,7 +113,7 @@ give_up-requires-in-Past-clause-found g c =
 
 pub give_up-requires-in-Past-clause-aimed : goal.give_up-requires-in-Past-clause-aimed
 give_up-requires-in-Past-clause-aimed g c =
-    let d = c.args.domain.now in
+    let d = c.args.monitor.now.domain.now in
     let ask = c.args.ask.now in
     let sent = c.in-Err.ensures in
     let u = c.in-Err.unsent in
@@ -129,7 +129,7 @@ give_up-requires-in-Past-clause-aimed g c =
 
 pub give_up-requires-in-Past-clause-why : goal.give_up-requires-in-Past-clause-why
 give_up-requires-in-Past-clause-why g c =
-    let d = c.args.domain.now in
+    let d = c.args.monitor.now.domain.now in
     let ask = c.args.ask.now in
     let sent = c.in-Err.ensures in
     let u = c.in-Err.unsent in
@@ -146,7 +146,7 @@ give_up-requires-in-Past-clause-why g c =
 
 pub returns-in-Past-clause-goes : goal.returns-in-Past-clause-goes
 returns-in-Past-clause-goes g c =
-    let d = c.args.domain.now in
+    let d = c.args.monitor.now.domain.now in
     let ask = c.args.ask.now in
     let sent = c.in-Err.ensures in
     let u = c.in-Err.unsent in
@@ -161,7 +161,7 @@ returns-in-Past-clause-goes g c =
 
 pub returns-in-Past-clause-tries : goal.returns-in-Past-clause-tries
 returns-in-Past-clause-tries g c =
-    let d = c.args.domain.now in
+    let d = c.args.monitor.now.domain.now in
     let ask = c.args.ask.now in
     let sent = c.in-Err.ensures in
     let u = c.in-Err.unsent in
@@ -180,7 +180,7 @@ returns-in-Past-clause-tries g c =
 
 pub give_up-requires-in-NoMemory-clause-found : goal.give_up-requires-in-NoMemory-clause-found
 give_up-requires-in-NoMemory-clause-found g c =
-    let d = c.args.domain.now in
+    let d = c.args.monitor.now.domain.now in
     let ask = c.args.ask.now in
     let sent = c.in-Err.ensures in
     let u = c.in-Err.unsent in
@@ -196,7 +196,7 @@ give_up-requires-in-NoMemory-clause-found g c =
 
 pub give_up-requires-in-NoMemory-clause-aimed : goal.give_up-requires-in-NoMemory-clause-aimed
 give_up-requires-in-NoMemory-clause-aimed g c =
-    let d = c.args.domain.now in
+    let d = c.args.monitor.now.domain.now in
     let ask = c.args.ask.now in
     let sent = c.in-Err.ensures in
     let u = c.in-Err.unsent in
@@ -212,7 +212,7 @@ give_up-requires-in-NoMemory-clause-aimed g c =
 
 pub returns-in-NoMemory-clause-goes : goal.returns-in-NoMemory-clause-goes
 returns-in-NoMemory-clause-goes g c =
-    let d = c.args.domain.now in
+    let d = c.args.monitor.now.domain.now in
     let ask = c.args.ask.now in
     let sent = c.in-Err.ensures in
     let u = c.in-Err.unsent in
@@ -227,7 +227,7 @@ returns-in-NoMemory-clause-goes g c =
 
 pub returns-in-NoMemory-clause-tries : goal.returns-in-NoMemory-clause-tries
 returns-in-NoMemory-clause-tries g c =
-    let d = c.args.domain.now in
+    let d = c.args.monitor.now.domain.now in
     let ask = c.args.ask.now in
     let sent = c.in-Err.ensures in
     let u = c.in-Err.unsent in
@@ -239,7 +239,7 @@ returns-in-NoMemory-clause-tries g c =
 
 pub loop-preserved : goal.loop-preserved
 loop-preserved g c =
-    let d = c.args.domain.now in
+    let d = c.args.monitor.now.domain.now in
     let ask = c.args.ask.now in
     let sent = c.in-Err.ensures in
     let u = c.in-Err.unsent in
@@ -264,7 +264,7 @@ loop-preserved g c =
 
 pub give_up-requires-in-Past-clause-active : goal.give_up-requires-in-Past-clause-active
 give_up-requires-in-Past-clause-active g c =
-    let d = c.args.domain.now in
+    let d = c.args.monitor.now.domain.now in
     let ask = c.args.ask.now in
     let aim = c.aim.ensures in
     let its = c.in-Past.ensures in
@@ -272,7 +272,7 @@ give_up-requires-in-Past-clause-active g c =
 
 pub returns-in-Past-clause-notes : goal.returns-in-Past-clause-notes
 returns-in-Past-clause-notes g c =
-    let d = c.args.domain.now in
+    let d = c.args.monitor.now.domain.now in
     let ask = c.args.ask.now in
     let aim = c.aim.ensures in
     let its = c.in-Past.ensures in
@@ -280,7 +280,7 @@ returns-in-Past-clause-notes g c =
 
 pub give_up-requires-in-NoMemory-clause-active : goal.give_up-requires-in-NoMemory-clause-active
 give_up-requires-in-NoMemory-clause-active g c =
-    let d = c.args.domain.now in
+    let d = c.args.monitor.now.domain.now in
     let ask = c.args.ask.now in
     let aim = c.aim.ensures in
     let its = c.in-NoMemory.ensures in
@@ -288,7 +288,7 @@ give_up-requires-in-NoMemory-clause-active g c =
 
 pub returns-in-NoMemory-clause-notes : goal.returns-in-NoMemory-clause-notes
 returns-in-NoMemory-clause-notes g c =
-    let d = c.args.domain.now in
+    let d = c.args.monitor.now.domain.now in
     let ask = c.args.ask.now in
     let aim = c.aim.ensures in
     let its = c.in-NoMemory.ensures in

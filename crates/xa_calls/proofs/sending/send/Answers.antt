@@ -7,16 +7,16 @@ use Rattle.xa_calls.proofs.Noting.{quiet_one}
 use Rattle.xa_calls.proofs.sending.send.Goals as goal
 
 pub returns-in_err-try_to_send-2-clause-goes : goal.returns-in_err-try_to_send-2-clause-goes
-returns-in_err-try_to_send-2-clause-goes g c = performs_trans c.args.domain.now c.args.op (Call c.args.ask.now) c.args.desk.now c.loop.desk c.try_to_send-in-loop.new.desk c.loop.invariant.goes c.try_to_send-in-loop.ensures.goes
+returns-in_err-try_to_send-2-clause-goes g c = performs_trans c.args.monitor.now.domain.now c.args.op (Call c.args.ask.now) c.args.desk.now c.loop.desk c.try_to_send-in-loop.new.desk c.loop.invariant.goes c.try_to_send-in-loop.ensures.goes
 
 pub returns-in-Sent-2-clause-goes : goal.returns-in-Sent-2-clause-goes
-returns-in-Sent-2-clause-goes g c = performs_trans c.args.domain.now c.args.op (Call c.args.ask.now) c.args.desk.now c.loop.desk c.try_to_send-in-loop.new.desk c.loop.invariant.goes c.try_to_send-in-loop.ensures.goes
+returns-in-Sent-2-clause-goes g c = performs_trans c.args.monitor.now.domain.now c.args.op (Call c.args.ask.now) c.args.desk.now c.loop.desk c.try_to_send-in-loop.new.desk c.loop.invariant.goes c.try_to_send-in-loop.ensures.goes
 
 pub returns-in-Refused-2-clause-goes : goal.returns-in-Refused-2-clause-goes
-returns-in-Refused-2-clause-goes g c = performs_trans c.args.domain.now c.args.op (Call c.args.ask.now) c.args.desk.now c.loop.desk c.try_to_send-in-loop.new.desk c.loop.invariant.goes c.try_to_send-in-loop.ensures.goes
+returns-in-Refused-2-clause-goes g c = performs_trans c.args.monitor.now.domain.now c.args.op (Call c.args.ask.now) c.args.desk.now c.loop.desk c.try_to_send-in-loop.new.desk c.loop.invariant.goes c.try_to_send-in-loop.ensures.goes
 
 pub returns-then-is_some-clause-goes : goal.returns-then-is_some-clause-goes
-returns-then-is_some-clause-goes g c = performs_trans c.args.domain.now c.args.op (Call c.args.ask.now) c.args.desk.now c.loop.desk c.try_to_send-in-loop.new.desk c.loop.invariant.goes c.try_to_send-in-loop.ensures.goes
+returns-then-is_some-clause-goes g c = performs_trans c.args.monitor.now.domain.now c.args.op (Call c.args.ask.now) c.args.desk.now c.loop.desk c.try_to_send-in-loop.new.desk c.loop.invariant.goes c.try_to_send-in-loop.ensures.goes
 
 pub returns-in_err-try_to_send-2-clause-notes : goal.returns-in_err-try_to_send-2-clause-notes
 returns-in_err-try_to_send-2-clause-notes g c =
@@ -36,13 +36,13 @@ returns-in-Refused-2-clause-notes g c =
 
 pub returns-then-is_some-clause-notes : goal.returns-then-is_some-clause-notes
 returns-then-is_some-clause-notes g c =
-    let ready = full_on c.args.domain.now c.args.ask.now c.args.op c.args.desk.now.caller.op c.try_to_send-in-loop.new.desk c.in_ok-try_to_send-2.field-0 c.requires.turn c.in-Full-2.is c.in_ok-try_to_send-2.ensures.tried in
+    let ready = full_on c.args.monitor.now.domain.now c.args.ask.now c.args.op c.args.desk.now.caller.op c.try_to_send-in-loop.new.desk c.in_ok-try_to_send-2.field-0 c.requires.turn c.in-Full-2.is c.in_ok-try_to_send-2.ensures.tried in
     (subst (λ (t : Tried). TriedNotes c.args.op (Ok t) c.loop.desk c.try_to_send-in-loop.new.desk) c.in-Full-2.is c.in_ok-try_to_send-2.ensures.notes ∙ c.loop.invariant.quiet, ready.idle)
 
 pub loop-preserved : goal.loop-preserved
 loop-preserved g c = record {
-  goes = performs_trans c.args.domain.now c.args.op (Call c.args.ask.now) c.args.desk.now c.loop.desk c.try_to_send-in-loop.new.desk c.loop.invariant.goes c.try_to_send-in-loop.ensures.goes;
-  ready = full_on c.args.domain.now c.args.ask.now c.args.op c.args.desk.now.caller.op c.try_to_send-in-loop.new.desk c.in_ok-try_to_send-2.field-0 c.requires.turn c.in-Full-2.is c.in_ok-try_to_send-2.ensures.tried;
+  goes = performs_trans c.args.monitor.now.domain.now c.args.op (Call c.args.ask.now) c.args.desk.now c.loop.desk c.try_to_send-in-loop.new.desk c.loop.invariant.goes c.try_to_send-in-loop.ensures.goes;
+  ready = full_on c.args.monitor.now.domain.now c.args.ask.now c.args.op c.args.desk.now.caller.op c.try_to_send-in-loop.new.desk c.in_ok-try_to_send-2.field-0 c.requires.turn c.in-Full-2.is c.in_ok-try_to_send-2.ensures.tried;
   active = c.try_to_send-in-loop.ensures.active;
   quiet = subst (λ (t : Tried). TriedNotes c.args.op (Ok t) c.loop.desk c.try_to_send-in-loop.new.desk) c.in-Full-2.is c.in_ok-try_to_send-2.ensures.notes ∙ c.loop.invariant.quiet;
 }

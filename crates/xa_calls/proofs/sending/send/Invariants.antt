@@ -7,8 +7,8 @@ use Rattle.xa_calls.proofs.sending.send.Given as goal
 -- all queues that are up were full
 abbrev pub invariant-loop : goal.invariant-loop
 invariant-loop g l = record {
-  goes : PerformsBy l.domain l.op (Call l.ask) l.fn.desk l.desk;
-  ready : IsReady l.domain l.fn.desk.caller.op l.desk;
+  goes : PerformsBy l.monitor.domain.now l.op (Call l.ask) l.fn.desk l.desk;
+  ready : IsReady l.monitor.domain.now l.fn.desk.caller.op l.desk;
   active : MayCall l.desk.caller;
   quiet : IsQuiet l.fn.desk l.desk;
 }

@@ -5,14 +5,14 @@ use Rattle.xa_client_worker.proofs.working.perform_all.Goals as goal
 
 pub returns-in_err-perform-clause-goes : goal.returns-in_err-perform-clause-goes
 returns-in_err-perform-clause-goes g c =
-    through_one c.args.domain.now c.args.ops.now c.args.desk.now c.loop-op.desk c.perform.new.desk c.loop-op.op-index c.op-item.result c.loop-op-test.true c.op-item.is c.loop-op.invariant.goes
-    (subst (λ (n : ℕ). PerformsBy c.args.domain.now (n + 1) c.op-item.result c.loop-op.desk c.perform.new.desk) c.loop-op.invariant.number c.perform.ensures.goes)
+    through_one c.args.monitor.now.domain.now c.args.ops.now c.args.desk.now c.loop-op.desk c.perform.new.desk c.loop-op.op-index c.op-item.result c.loop-op-test.true c.op-item.is c.loop-op.invariant.goes
+    (subst (λ (n : ℕ). PerformsBy c.args.monitor.now.domain.now (n + 1) c.op-item.result c.loop-op.desk c.perform.new.desk) c.loop-op.invariant.number c.perform.ensures.goes)
 
 pub loop-op-preserved : goal.loop-op-preserved
 loop-op-preserved g c = record {
   number = ap (λ (n : ℕ). n + 1) c.loop-op.invariant.number;
-  goes = through_one c.args.domain.now c.args.ops.now c.args.desk.now c.loop-op.desk c.perform.new.desk c.loop-op.op-index c.op-item.result c.loop-op-test.true c.op-item.is c.loop-op.invariant.goes
-      (subst (λ (n : ℕ). PerformsBy c.args.domain.now (n + 1) c.op-item.result c.loop-op.desk c.perform.new.desk) c.loop-op.invariant.number c.perform.ensures.goes);
-  ready = ready_behind c.args.domain.now c.loop-op.op-index (c.loop-op.op-index + 1) c.loop-op.desk c.perform.new.desk c.loop-op.invariant.ready c.perform.ensures.goes.same
-      (subst (λ (n : ℕ). IsReadyAt c.args.domain.now (n + 1) c.perform.new.desk) c.loop-op.invariant.number c.in_ok-perform.ensures.made);
+  goes = through_one c.args.monitor.now.domain.now c.args.ops.now c.args.desk.now c.loop-op.desk c.perform.new.desk c.loop-op.op-index c.op-item.result c.loop-op-test.true c.op-item.is c.loop-op.invariant.goes
+      (subst (λ (n : ℕ). PerformsBy c.args.monitor.now.domain.now (n + 1) c.op-item.result c.loop-op.desk c.perform.new.desk) c.loop-op.invariant.number c.perform.ensures.goes);
+  ready = ready_behind c.args.monitor.now.domain.now c.loop-op.op-index (c.loop-op.op-index + 1) c.loop-op.desk c.perform.new.desk c.loop-op.invariant.ready c.perform.ensures.goes.same
+      (subst (λ (n : ℕ). IsReadyAt c.args.monitor.now.domain.now (n + 1) c.perform.new.desk) c.loop-op.invariant.number c.in_ok-perform.ensures.made);
 }

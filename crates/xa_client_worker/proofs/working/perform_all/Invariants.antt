@@ -7,6 +7,6 @@ use Rattle.xa_client_worker.proofs.working.perform_all.Given as goal
 abbrev pub invariant-loop-op : goal.invariant-loop-op
 invariant-loop-op g l = record {
   number : l.number ≡ l.op-index;
-  goes : GoesThrough l.domain l.ops l.fn.desk l.desk;
-  ready : IsReady l.domain l.op-index l.desk;
+  goes : GoesThrough l.monitor.domain.now l.ops l.fn.desk l.desk;
+  ready : IsReady l.monitor.domain.now l.op-index l.desk;
 }

@@ -22,22 +22,22 @@ all_at_work-requires-sync-S g c κs inside = record { shared = (shared_syncs (re
 pub all_at_work-requires-after_bounds : goal.all_at_work-requires-after_bounds
 all_at_work-requires-after_bounds g c κs inside place w within shared lent is its =
     let s = c.args.shared.now in
-    let d = s.domain.now in
+    let d = s.monitor.domain.now in
     let built = numbered-at (IsNewClient d) 1 c.args.clients.now c.requires.new place w within in
     let many : place < length s.scripts.now = omega (arith, c.requires.count, within) in
     let may : MayWork d lent.now = subst (MayWork d) (sym its) (may_work d (1 + place) _ built) in (
-      subst (λ x. IsDomain x.domain.now × All IsBuiltClient x.scripts.now × (place < length x.scripts.now) × MayWork x.domain.now lent.now) (sym is) (c.requires.domain, c.requires.built, many, may),
+      subst (λ x. IsDomain x.monitor.domain.now × All IsBuiltClient x.scripts.now × (place < length x.scripts.now) × MayWork x.monitor.domain.now lent.now) (sym is) (c.requires.domain, c.requires.built, many, may),
       search (sendable, c.type_bounds.sync-R, c.type_bounds.sync-G),
     )
 
 pub returns : goal.returns
 returns g c =
     let s = c.args.shared.now in
-    let d = s.domain.now in
+    let d = s.monitor.domain.now in
     let old = c.args.clients.now in
     let new = c.all_at_work.new.workers in
     each_done d 1 s.scripts.now old new c.requires.count (search rules) c.requires.new (λ k w script within is.
     let at = c.all_at_work.ensures k w within in
     let Went : ClientWorker → ClientWorker → Type 0 = HasWorked d script.ops (length script.ops) in
-    let worked : Went at.lent.now at.left.now = subst (λ x. script ≡ get_or x.scripts.now k script → HasWorked x.domain.now script.ops (length script.ops) at.lent.now at.left.now) at.shows.0 (at.called script) is in
+    let worked : Went at.lent.now at.left.now = subst (λ x. script ≡ get_or x.scripts.now k script → HasWorked x.monitor.domain.now script.ops (length script.ops) at.lent.now at.left.now) at.shows.0 (at.called script) is in
     subst (λ x. Went x (get_or new k w)) at.shows.1 (subst (Went at.lent.now) at.after worked))

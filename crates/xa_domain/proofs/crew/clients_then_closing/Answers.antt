@@ -2,4 +2,4 @@ use Rattle.xa_domain.proofs.Working.{is_closer}
 use Rattle.xa_domain.proofs.crew.clients_then_closing.Goals as goal
 
 pub close_behind-requires-clause-closer : goal.close_behind-requires-clause-closer
-close_behind-requires-clause-closer g c = is_closer c.args.shared.now.domain.now c.args.side.now.closer c.requires.closer
+close_behind-requires-clause-closer g c = is_closer c.args.shared.now.monitor.domain.now c.args.side.now.closer c.requires.closer

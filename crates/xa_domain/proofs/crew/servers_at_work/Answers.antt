@@ -22,10 +22,10 @@ all_at_work-requires-sync-S g c κs inside = record { shared = (shared_syncs (re
 
 pub all_at_work-requires-after_bounds : goal.all_at_work-requires-after_bounds
 all_at_work-requires-after_bounds g c κs inside place w within shared lent is its =
-    let d = c.args.shared.now.domain.now in
+    let d = c.args.shared.now.monitor.domain.now in
     let shows : g.row.T.Denot → StarterShows = g.T.Starter.shows in
     let at = numbered-at (IsNewServer d shows) 1 c.args.servers.now c.requires.new place w within in (
-      subst (λ x. IsDomain x.domain.now × MayServe x.domain.now shows lent.now) (sym is) (c.requires.domain, subst (λ w. MayServe d shows w) (sym its) at.may),
+      subst (λ x. IsDomain x.monitor.domain.now × MayServe x.monitor.domain.now shows lent.now) (sym is) (c.requires.domain, subst (λ w. MayServe d shows w) (sym its) at.may),
       (
         search (sendable, c.type_bounds.send-L.owned, c.type_bounds.send-L.leaving),
         search (sendable, c.type_bounds.send-T.owned, c.type_bounds.send-T.leaving),
@@ -36,18 +36,18 @@ all_at_work-requires-after_bounds g c κs inside place w within shared lent is i
 
 pub returns-clause-over : goal.returns-clause-over
 returns-clause-over g c =
-    let d = c.args.shared.now.domain.now in
+    let d = c.args.shared.now.monitor.domain.now in
     let shows : g.row.T.Denot → StarterShows = g.T.Starter.shows in
     let new = c.all_at_work.new.workers in
     numbered-went (HasServed d shows) (IsNewServer d shows) (IsOver d shows) (is_over d shows) 1 c.args.servers.now new (search rules) c.requires.new (λ k w within.
     let at = c.all_at_work.ensures k w within in
-    subst (λ x. HasServed d shows x (get_or new k w)) at.shows.1 (subst (HasServed d shows at.lent.now) at.after (subst (λ x. HasServed x.domain.now shows at.lent.now at.left.now) at.shows.0 at.called)))
+    subst (λ x. HasServed d shows x (get_or new k w)) at.shows.1 (subst (HasServed d shows at.lent.now) at.after (subst (λ x. HasServed x.monitor.domain.now shows at.lent.now at.left.now) at.shows.0 at.called)))
 
 pub returns-clause-names : goal.returns-clause-names
 returns-clause-names g c =
-    let d = c.args.shared.now.domain.now in
+    let d = c.args.shared.now.monitor.domain.now in
     let shows : g.row.T.Denot → StarterShows = g.T.Starter.shows in
     let new = c.all_at_work.new.workers in
     map-went (HasServed d shows) (λ w. (shows w.served.starter).name) (λ w. w.name) (λ x y served. served.starter) c.args.servers.now new (search rules) (λ k w within.
     let at = c.all_at_work.ensures k w within in
-    subst (λ x. HasServed d shows x (get_or new k w)) at.shows.1 (subst (HasServed d shows at.lent.now) at.after (subst (λ x. HasServed x.domain.now shows at.lent.now at.left.now) at.shows.0 at.called)))
+    subst (λ x. HasServed d shows x (get_or new k w)) at.shows.1 (subst (HasServed d shows at.lent.now) at.after (subst (λ x. HasServed x.monitor.domain.now shows at.lent.now at.left.now) at.shows.0 at.called)))

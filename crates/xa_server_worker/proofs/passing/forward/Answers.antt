@@ -4,7 +4,7 @@ use Rattle.xa_desk.specs.xa_types.declared.data.Data.{Data}
 use Rattle.xa_desk.specs.xa_queue.declared.entry.Entry.{Entry}
 use Rattle.xa_desk.specs.xa_types.Kind.{kind_of}
 use Rattle.xa_desk.specs.xa_events.declared.event.Event.{Event}
-use Rattle.xa_desk.specs.xa_caller.Caller.{Standing as Caller}
+use Rattle.xa_desk.specs.xa_caller.Caller.{CallerState}
 use Rattle.xa_desk.proofs.xa_caller.Next.{first_found}
 use Rattle.xa_desk.specs.xa_caller.Drafts.{Cargo}
 use Rattle.xa_desk.specs.declared.desk.Desk.{Desk}
@@ -27,7 +27,7 @@ forward-requires-clause-serving g c =
 
 pub returns-in-Ok-Failed : goal.returns-in-Ok-Failed
 returns-in-Ok-Failed g c =
-    let d = c.args.domain.now in
+    let d = c.args.monitor.now.domain.now in
     let s = c.requires.serving in
     let found = c.look_up.ensures in
     let q = its_queue d c.args.slot.now in
@@ -44,7 +44,7 @@ returns-in-Ok-Failed g c =
 
 pub pass_on-requires-clause-passing : goal.pass_on-requires-clause-passing
 pass_on-requires-clause-passing g c =
-    let d = c.args.domain.now in
+    let d = c.args.monitor.now.domain.now in
     let s = c.requires.serving in
     let found = c.look_up.ensures in
     let q = its_queue d c.args.slot.now in
@@ -56,7 +56,7 @@ pass_on-requires-clause-passing g c =
 
 pub pass_on-requires-clause-first : goal.pass_on-requires-clause-first
 pass_on-requires-clause-first g c =
-    let d = c.args.domain.now in
+    let d = c.args.monitor.now.domain.now in
     let slot = c.args.slot.now in
     let found = c.look_up.ensures in
     let mid = c.look_up.new.desk in
@@ -73,7 +73,7 @@ pass_on-requires-clause-first g c =
 
 pub returns-in-Ok-On : goal.returns-in-Ok-On
 returns-in-Ok-On g c =
-    let d = c.args.domain.now in
+    let d = c.args.monitor.now.domain.now in
     let s = c.requires.serving in
     let slot = c.args.slot.now in
     let found = c.look_up.ensures in
@@ -90,7 +90,7 @@ returns-in-Ok-On g c =
     let has = found.found (way_named d.setup service payload (hop_in slot.hand) mid.reader.found passed.0 passed.1) in
     let out = passed.2 in
     let further = out_steps its.leads out.same in
-    let own = ap (λ (x : Caller). x.work.own) out.same in
+    let own = ap (λ (x : CallerState). x.work.own) out.same in
     let passing = subst (λ r. IfOk r (λ forwarding. Leaves d q forwarding slot' desk')) is (its.leaves q (found.serving q slot s.1) s.0 (if_taken (found.taken q s.0) slot.hand s.2)) in
     let rest = c.pass_on.ensures service (subst (λ (x : Desk). HasFound d service x.reader.found x) (same_desk mid desk' its.rest.0 out.same) has) in
     result_from d q slot slot' c.pass_on.new.slot c.args.desk.now desk' c.pass_on.new.desk (out_same out) (steps_trans [] [] found.steps further) (own ∙ found.own) (its.rest.1 ∙ found.seat) service payload c.pass_on.result
@@ -99,7 +99,7 @@ returns-in-Ok-On g c =
 
 pub returns : goal.returns
 returns g c =
-    let d = c.args.domain.now in
+    let d = c.args.monitor.now.domain.now in
     let s = c.requires.serving in
     let slot = c.args.slot.now in
     let found = c.look_up.ensures in

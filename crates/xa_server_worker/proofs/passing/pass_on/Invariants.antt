@@ -7,9 +7,9 @@ use Rattle.xa_server_worker.proofs.passing.pass_on.Given as goal
 abbrev pub invariant-loop : goal.invariant-loop
 invariant-loop g l = record {
   same : l.slot ≡ l.fn.slot;
-  passing : IsPassing l.domain (its_queue l.domain l.fn.slot) l.entry l.event l.slot l.desk;
-  back : IsBack l.domain l.fn.desk l.desk;
+  passing : IsPassing l.monitor.domain.now (its_queue l.monitor.domain.now l.fn.slot) l.entry l.event l.slot l.desk;
+  back : IsBack l.monitor.domain.now l.fn.desk l.desk;
   payload : l.entry.cargo.invocation.payload ≡ l.fn.first.cargo.invocation.payload;
   by : IsBy l.desk l.attempt l.event;
-  tried : WereTried l.domain l.desk l.attempt;
+  tried : WereTried l.monitor.domain.now l.desk l.attempt;
 }

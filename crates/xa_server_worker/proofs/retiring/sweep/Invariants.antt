@@ -6,7 +6,7 @@ use Rattle.xa_server_worker.proofs.retiring.sweep.Given as goal
 -- each that was swept so far was told
 abbrev pub invariant-loop : goal.invariant-loop
 invariant-loop g l = record {
-  goes : OfDomainAt l.domain l.fn.desk l.desk;
-  fallen : IsFallen l.domain l.queue.0 l.desk;
+  goes : OfDomainAt l.monitor.domain.now l.fn.desk l.desk;
+  fallen : IsFallen l.monitor.domain.now l.queue.0 l.desk;
   told : TellsLast l.fn.desk → TellsLast l.desk;
 }

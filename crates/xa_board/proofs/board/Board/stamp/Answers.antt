@@ -1,11 +1,11 @@
 use Rattle.std.proofs.Common.{◌≡◌, subst}
 use Rattle.xa_stamp.proofs.Stamps.{last_stamp-read, Rises-last}
-use Rattle.xa_board.specs.Board.{Standing, stamp_of}
+use Rattle.xa_board.specs.Board.{BoardState, stamp_of}
 use Rattle.xa_board.proofs.board.Board.stamp.Goals as goal
 
 pub returns-in-len1-up-clause-value : goal.returns-in-len1-up-clause-value
 returns-in-len1-up-clause-value c =
-    let P : Standing → Type 0 = λ board. c.newest-item.result.stamp.0 ≡ stamp_of board in
+    let P : BoardState → Type 0 = λ board. c.newest-item.result.stamp.0 ≡ stamp_of board in
     subst P c.self.view_is (last_stamp-read c.self.inside.home.first _ _ _ c.entries.ensures.value c.in-len1-up.len_at_least c.newest-item.is)
 
 pub returns-in-len1-up-clause-bound : goal.returns-in-len1-up-clause-bound

@@ -8,13 +8,13 @@ use Rattle.xa_events.specs.declared.event.Accepted.{Accepted}
 use Rattle.xa_events.specs.declared.event.Event.TheVariants.{Accept}
 use Rattle.xa_cell.specs.Known.{known}
 use Rattle.xa_cell.specs.Places.{OpenAre}
-use Rattle.xa_worker.specs.Work.{Standing as Working}
+use Rattle.xa_worker.specs.Work.{WorkState}
 use Rattle.xa_caller.specs.declared.phase.Draft.{Draft}
 use Rattle.xa_caller.specs.declared.phase.Phase.{Phase}
 use Rattle.xa_caller.specs.declared.phase.Phase.TheVariants.{Prepared}
 use Rattle.xa_caller.specs.Drafts.{accepted_by}
 use Rattle.xa_caller.specs.Phases.{places_in}
-use Rattle.xa_caller.specs.Caller.{Standing, AreRowsOf}
+use Rattle.xa_caller.specs.Caller.{CallerState, AreRowsOf}
 use Rattle.xa_caller.specs.Kept.{standing_of, Holds}
 use Rattle.xa_caller.specs.Unsent.{AimsAt}
 use Rattle.xa_caller.proofs.Next.{row-priority}
@@ -26,9 +26,9 @@ use Rattle.xa_caller.proofs.caller.Caller.aim.Goals as goal
 
 pub invariant_of-self : goal.invariant_of-self
 invariant_of-self c =
-    let s : Standing = standing_of c.self.inside in
+    let s : CallerState = standing_of c.self.inside in
     let i = c.self.invariant in
-    let w : Working = c.self.inside.work in
+    let w : WorkState = c.self.inside.work in
     let draft : Draft = c.draft_in-op.result in
     let was : s.phase ≡ Prepared draft = sym c.take_out.ensures.0 ∙ c.draft_in-op.ensures in
     let held = subst (Holds w.setup w.id w.room s.op s.sent s.least s.priority) was i.holds in
@@ -37,7 +37,7 @@ invariant_of-self c =
     let now : c.set.new.phase ≡ Prepared redrawn = c.set.ensures in
     let row : Row = c.in-Some.row in
     let a : Accepted = accepted_by draft.op draft.asked.request draft.version row s.priority c.in-Ok.payload in
-    let rows = subst (λ (t : Standing). AreRowsOf t.work.setup c.args.entry.cargo.invocation.service c.args.found.now.rows) (sym c.self.view_is) c.requires.rows in
+    let rows = subst (λ (t : CallerState). AreRowsOf t.work.setup c.args.entry.cargo.invocation.service c.args.found.now.rows) (sym c.self.view_is) c.requires.rows in
     let all = at-all (λ (r : Row). r ≡ row_for w.setup c.args.entry.cargo.invocation.service r.queue.0 r.routine) c.args.found.now.rows c.args.attempt row (sym c.row_at.ensures ∙ c.in-Some.is) rows in
     record {
       sound = record { reads = reads_redrawn w.setup _ s.op s.sent s.least s.priority s.phase c.set.new.phase draft redrawn was now i.sound.reads };
@@ -52,7 +52,7 @@ invariant_of-self c =
           request = refl;
           mine = sym d.request ∙ d.mine;
           mode = refl;
-          sound = ap (is_sound w.setup) c.in-Ok.ensures ∙ subst (λ (t : Standing). is_sound t.work.setup c.args.entry.cargo.invocation.payload ≡ true) (sym c.self.view_is) c.requires.sound;
+          sound = ap (is_sound w.setup) c.in-Ok.ensures ∙ subst (λ (t : CallerState). is_sound t.work.setup c.args.entry.cargo.invocation.payload ≡ true) (sym c.self.view_is) c.requires.sound;
           version = refl;
           recent = d.recent;
           priority_is = row-priority w.setup c.args.entry.cargo.invocation.service row s.priority all;
@@ -65,7 +65,7 @@ invariant_of-self c =
 
 pub returns-clause-aims : goal.returns-clause-aims
 returns-clause-aims c =
-    let s : Standing = standing_of c.self.inside in
+    let s : CallerState = standing_of c.self.inside in
     let draft : Draft = c.draft_in-op.result in
     let redrawn : Draft = record draft { event = c.of-event_noted.result } in (
       c.in-Some.row,

@@ -2,33 +2,33 @@ use Rattle.std.proofs.Common.{◌≡◌, ◌<◌, ◌≤◌, None, sym, ◌∙�
 use Rattle.xa_events.specs.declared.event.Event.{Event}
 use Rattle.xa_events.specs.Views.{CallerView}
 use Rattle.xa_stamp.specs.declared.home.Stamped.{Stamped}
-use Rattle.xa_worker.specs.Work.{Standing as Working, IsNext, noted}
+use Rattle.xa_worker.specs.Work.{WorkState, IsNext, noted}
 use Rattle.xa_caller.specs.declared.phase.Phase.TheVariants.{Idle}
-use Rattle.xa_caller.specs.Caller.{Standing, Reads, IsSound, view_of}
+use Rattle.xa_caller.specs.Caller.{CallerState, Reads, IsSound, view_of}
 use Rattle.xa_caller.specs.Kept.{standing_of, Holds, IsSeated}
 use Rattle.xa_caller.proofs.Reading.{view-more, reads_forwarded}
 use Rattle.xa_caller.proofs.caller.Caller.forwarded.Goals as goal
 
 pub invariant_of-self : goal.invariant_of-self
 invariant_of-self c =
-    let s : Standing = standing_of c.self.inside in
+    let s : CallerState = standing_of c.self.inside in
     let i = c.self.invariant in
-    let w : Working = c.self.inside.work in
+    let w : WorkState = c.self.inside.work in
     let e : Event = c.args.event.value in
     let v = c.args.version in
     let x : Stamped = record { stamp = c.args.stamp; event = e } in
-    let next : IsNext w e = subst (λ (t : Standing). IsNext t.work e) (sym c.self.view_is) c.requires.next in
+    let next : IsNext w e = subst (λ (t : CallerState). IsNext t.work e) (sym c.self.view_is) c.requires.next in
     let made : c.noted.new.self ≡ noted x w = c.noted.ensures.noted in
-    let idle : s.phase ≡ Idle = ap (λ (t : Standing). t.phase) c.self.view_is ∙ c.requires.idle in
-    let later = subst (λ (t : Standing). t.work.stamp.0 < c.args.stamp.0) (sym c.self.view_is) c.requires.later in
-    let recent = subst (λ (t : Standing). t.least ≤ v) (sym c.self.view_is) c.requires.recent in
-    let higher = ap (λ (u : Working). u.stamp.0) made in
+    let idle : s.phase ≡ Idle = ap (λ (t : CallerState). t.phase) c.self.view_is ∙ c.requires.idle in
+    let later = subst (λ (t : CallerState). t.work.stamp.0 < c.args.stamp.0) (sym c.self.view_is) c.requires.later in
+    let recent = subst (λ (t : CallerState). t.least ≤ v) (sym c.self.view_is) c.requires.recent in
+    let higher = ap (λ (u : WorkState). u.stamp.0) made in
     record {
-      sound = subst (λ (u : Working). IsSound (record s { work = u; least = v; priority = None })) (sym made) (record {
+      sound = subst (λ (u : WorkState). IsSound (record s { work = u; least = v; priority = None })) (sym made) (record {
         reads = subst (λ (view : CallerView). Reads w.setup view s.op s.sent v None s.phase) (sym (view-more w x next.its)) (reads_forwarded w.setup w.clients w.id.0 e (view_of w) s.op s.sent s.least v s.priority s.phase c.requires.kind next.its recent i.sound.reads);
       });
       holds = subst (Holds c.noted.new.self.setup c.noted.new.self.id c.noted.new.self.room s.op s.sent v None) (sym idle) tt;
       places = i.places;
-      seated = subst (λ (u : Working). IsSeated u.clients u.id s.seat) (sym made) i.seated;
+      seated = subst (λ (u : WorkState). IsSeated u.clients u.id s.seat) (sym made) i.seated;
       few = omega (arith, i.few, higher, later);
     }

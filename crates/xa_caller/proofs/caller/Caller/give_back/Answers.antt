@@ -2,11 +2,11 @@ use Rattle.std.proofs.Common.{◌≡◌, [], ◌∷◌, cond, refl, sym, ◌∙�
 use Rattle.xa_cell.specs.Known.{known}
 use Rattle.xa_cell.specs.Places.{OpenAre}
 use Rattle.xa_cell.proofs.OpenPlaces.{one_less_open}
-use Rattle.xa_worker.specs.Work.{Standing as Working}
+use Rattle.xa_worker.specs.Work.{WorkState}
 use Rattle.xa_caller.specs.declared.phase.Draft.{Draft}
 use Rattle.xa_caller.specs.declared.phase.Phase.TheVariants.{Idle, Prepared}
 use Rattle.xa_caller.specs.Phases.{places_in}
-use Rattle.xa_caller.specs.Caller.{Standing}
+use Rattle.xa_caller.specs.Caller.{CallerState}
 use Rattle.xa_caller.specs.Kept.{standing_of, Holds}
 use Rattle.xa_caller.proofs.Reading.{reads_unsent}
 use Rattle.xa_caller.proofs.Keeping.{seated-but, settled-withdrawn}
@@ -14,9 +14,9 @@ use Rattle.xa_caller.proofs.caller.Caller.give_back.Goals as goal
 
 pub invariant_of-self : goal.invariant_of-self
 invariant_of-self c =
-    let s : Standing = standing_of c.self.inside in
+    let s : CallerState = standing_of c.self.inside in
     let i = c.self.invariant in
-    let w : Working = c.self.inside.work in
+    let w : WorkState = c.self.inside.work in
     let draft : Draft = c.draft_in-op.result in
     let was : s.phase ≡ Prepared draft = sym c.take_out.ensures.0 ∙ c.draft_in-op.ensures in
     let idle : c.take_out.new.phase ≡ Idle = c.take_out.ensures.1 in

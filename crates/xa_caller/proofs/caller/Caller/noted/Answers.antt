@@ -2,29 +2,29 @@ use Rattle.std.proofs.Common.{◌≡◌, ◌<◌, sym, ap, subst, arith}
 use Rattle.xa_events.specs.declared.event.Event.{Event}
 use Rattle.xa_events.specs.Views.{CallerView}
 use Rattle.xa_stamp.specs.declared.home.Stamped.{Stamped}
-use Rattle.xa_worker.specs.Work.{Standing as Working, IsNext, noted}
-use Rattle.xa_caller.specs.Caller.{Standing, Reads, IsSound, view_of}
+use Rattle.xa_worker.specs.Work.{WorkState, IsNext, noted}
+use Rattle.xa_caller.specs.Caller.{CallerState, Reads, IsSound, view_of}
 use Rattle.xa_caller.specs.Kept.{standing_of, Holds, IsSeated}
 use Rattle.xa_caller.proofs.Reading.{view-more, reads_aside}
 use Rattle.xa_caller.proofs.caller.Caller.noted.Goals as goal
 
 pub invariant_of-self : goal.invariant_of-self
 invariant_of-self c =
-    let s : Standing = standing_of c.self.inside in
+    let s : CallerState = standing_of c.self.inside in
     let i = c.self.invariant in
-    let w : Working = c.self.inside.work in
+    let w : WorkState = c.self.inside.work in
     let e : Event = c.args.event.value in
     let x : Stamped = record { stamp = c.args.stamp; event = e } in
-    let next : IsNext w e = subst (λ (t : Standing). IsNext t.work e) (sym c.self.view_is) c.requires.next in
+    let next : IsNext w e = subst (λ (t : CallerState). IsNext t.work e) (sym c.self.view_is) c.requires.next in
     let made : c.noted.new.self ≡ noted x w = c.noted.ensures.noted in
-    let later = subst (λ (t : Standing). t.work.stamp.0 < c.args.stamp.0) (sym c.self.view_is) c.requires.later in
-    let higher = ap (λ (v : Working). v.stamp.0) made in
+    let later = subst (λ (t : CallerState). t.work.stamp.0 < c.args.stamp.0) (sym c.self.view_is) c.requires.later in
+    let higher = ap (λ (v : WorkState). v.stamp.0) made in
     record {
-      sound = subst (λ (v : Working). IsSound (record s { work = v })) (sym made) (record {
+      sound = subst (λ (v : WorkState). IsSound (record s { work = v })) (sym made) (record {
         reads = subst (λ (view : CallerView). Reads w.setup view s.op s.sent s.least s.priority s.phase) (sym (view-more w x next.its)) (reads_aside w.setup w.clients w.id.0 e (view_of w) s.op s.sent s.least s.priority s.phase c.requires.kind i.sound.reads);
       });
-      holds = subst (λ (v : Working). Holds v.setup v.id v.room s.op s.sent s.least s.priority s.phase) (sym made) i.holds;
+      holds = subst (λ (v : WorkState). Holds v.setup v.id v.room s.op s.sent s.least s.priority s.phase) (sym made) i.holds;
       places = i.places;
-      seated = subst (λ (v : Working). IsSeated v.clients v.id s.seat) (sym made) i.seated;
+      seated = subst (λ (v : WorkState). IsSeated v.clients v.id s.seat) (sym made) i.seated;
       few = omega (arith, i.few, higher, later);
     }

@@ -3,9 +3,9 @@ use Rattle.xa_events.specs.declared.event.Event.TheVariants.{Priority}
 use Rattle.xa_events.specs.declared.event.Prioritized.{Prioritized}
 use Rattle.xa_events.specs.Views.{CallerView}
 use Rattle.xa_stamp.specs.declared.home.Stamped.{Stamped}
-use Rattle.xa_worker.specs.Work.{Standing as Working, noted}
+use Rattle.xa_worker.specs.Work.{WorkState, noted}
 use Rattle.xa_caller.specs.declared.phase.Phase.TheVariants.{Idle}
-use Rattle.xa_caller.specs.Caller.{Standing, Reads, IsSound, MayCall, view_of}
+use Rattle.xa_caller.specs.Caller.{CallerState, Reads, IsSound, MayCall, view_of}
 use Rattle.xa_caller.specs.Kept.{standing_of, Holds, IsSeated}
 use Rattle.xa_caller.proofs.Next.{sets_next}
 use Rattle.xa_caller.proofs.Reading.{view-more, reads_set}
@@ -13,29 +13,29 @@ use Rattle.xa_caller.proofs.caller.Caller.set_priority.Goals as goal
 
 pub note_anew-requires-clause-next : goal.note_anew-requires-clause-next
 note_anew-requires-clause-next c =
-    let s : Standing = standing_of c.self.inside in
+    let s : CallerState = standing_of c.self.inside in
     let p : Prioritized = record { by = c.id.result; op = c.args.op; absolute = c.args.absolute; amount = to_z w32 (of_z w32 c.args.amount) } in
-    let next = ap (λ (t : Standing). t.op) c.self.view_is in
+    let next = ap (λ (t : CallerState). t.op) c.self.view_is in
     sets_next s c.self.invariant.sound (subst MayCall (sym c.self.view_is) c.requires.active) p c.id.ensures.value (omega (arith, next, c.requires.turn))
 
 pub invariant_of-self-2 : goal.invariant_of-self-2
 invariant_of-self-2 c =
-    let s : Standing = standing_of c.self.inside in
+    let s : CallerState = standing_of c.self.inside in
     let i = c.self.invariant in
-    let w : Working = c.self.inside.work in
+    let w : WorkState = c.self.inside.work in
     let p : Prioritized = record { by = c.id.result; op = c.args.op; absolute = c.args.absolute; amount = to_z w32 (of_z w32 c.args.amount) } in
     let x : Stamped = record { stamp = c.in_ok-stamp.stamp; event = Priority p } in
     let made : c.note_anew.new.self ≡ noted x w = c.in_ok-stamp.ensures.noted in
     let by : p.by.0 ≡ w.id.0 = ap (λ id. id.0) c.id.ensures.value in
-    let idle : s.phase ≡ Idle = ap (λ (t : Standing). t.phase) c.self.view_is ∙ c.requires.idle in
-    let higher = ap (λ (v : Working). v.stamp.0) made in
+    let idle : s.phase ≡ Idle = ap (λ (t : CallerState). t.phase) c.self.view_is ∙ c.requires.idle in
+    let higher = ap (λ (v : WorkState). v.stamp.0) made in
     record {
-      sound = subst (λ (v : Working). IsSound (record s { work = v; op = c.args.op; priority = Some (p.absolute, p.amount) })) (sym made) (record {
+      sound = subst (λ (v : WorkState). IsSound (record s { work = v; op = c.args.op; priority = Some (p.absolute, p.amount) })) (sym made) (record {
         reads = subst (λ (view : CallerView). Reads w.setup view c.args.op s.sent s.least (Some (p.absolute, p.amount)) s.phase) (sym (view-more w x by))
             (reads_set w.setup w.clients w.id.0 p (view_of w) s.op s.sent s.least s.priority s.phase by (omega (arith, c.requires.turn)) idle i.sound.reads);
       });
       holds = subst (Holds c.note_anew.new.self.setup c.note_anew.new.self.id c.note_anew.new.self.room c.args.op s.sent s.least (Some (p.absolute, p.amount))) (sym idle) tt;
       places = i.places;
-      seated = subst (λ (v : Working). IsSeated v.clients v.id s.seat) (sym made) i.seated;
+      seated = subst (λ (v : WorkState). IsSeated v.clients v.id s.seat) (sym made) i.seated;
       few = omega (arith, i.few, higher, c.in_ok-stamp.ensures.stamp);
     }

@@ -3,7 +3,7 @@ use Rattle.xa_types.specs.declared.fault.Fault.TheVariants.{System, Block}
 use Rattle.xa_events.specs.declared.event.Evidence.TheVariants.{AllDown, Queue}
 use Rattle.xa_caller.specs.declared.asking.GivenBack.{GivenBack}
 use Rattle.xa_caller.specs.declared.outcomes.Why.TheVariants.{Full}
-use Rattle.xa_caller.specs.Caller.{Standing}
+use Rattle.xa_caller.specs.Caller.{CallerState}
 use Rattle.xa_caller.specs.Unsent.{refused_for, other_step}
 use Rattle.xa_caller.proofs.Unsent.{unsent_refused, unsent_other}
 use Rattle.xa_caller.proofs.caller.Caller.unsent.Goals as goal
@@ -11,7 +11,7 @@ use Rattle.xa_caller.proofs.caller.Caller.unsent.Goals as goal
 pub refuse-requires-clause-shows : goal.refuse-requires-clause-shows
 refuse-requires-clause-shows c =
     let floor = c.id-itself.ensures.sound.reads.floor in
-    let least = ap (λ (t : Standing). t.least) c.give_back-op.ensures.made in
+    let least = ap (λ (t : CallerState). t.least) c.give_back-op.ensures.made in
     omega (arith, floor, c.give_back-op.ensures.recent, least)
 
 pub returns-in-AllShut-default-clause-unsent : goal.returns-in-AllShut-default-clause-unsent

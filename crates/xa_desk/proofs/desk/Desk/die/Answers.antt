@@ -1,6 +1,6 @@
 use Rattle.std.proofs.Common.{refl, sym, ap, subst}
 use Rattle.std.specs.Prelude.{IfOk}
-use Rattle.xa_server.specs.xa_caller.Caller.{Standing}
+use Rattle.xa_server.specs.xa_caller.Caller.{CallerState}
 use Rattle.xa_desk.specs.Desks.{Leads}
 use Rattle.xa_desk.specs.Serving.{IsServing, IsToTell}
 use Rattle.xa_desk.proofs.Dying.{died_leads, died_told, died_serving}
@@ -15,11 +15,11 @@ returns c =
     let died = c.died.ensures in
     let ask = c.requires.domain in
     record {
-      leads = subst (λ (caller : Standing). Leads d desk (record desk { caller = caller })) (sym died.rest) (died_leads d ask.0 desk slot c.args.cause ask.2 ask.3 c.requires.death c.died.new.self work c.died.result died.ok died.worn);
-      serving = λ queue serving. subst (λ (caller : Standing). IsServing d queue c.died.new.self (record desk { caller = caller })) (sym died.rest)
+      leads = subst (λ (caller : CallerState). Leads d desk (record desk { caller = caller })) (sym died.rest) (died_leads d ask.0 desk slot c.args.cause ask.2 ask.3 c.requires.death c.died.new.self work c.died.result died.ok died.worn);
+      serving = λ queue serving. subst (λ (caller : CallerState). IsServing d queue c.died.new.self (record desk { caller = caller })) (sym died.rest)
           (died_serving d queue desk slot c.args.cause ask.2 serving c.requires.death c.died.new.self work c.died.result died.stands died.ok died.worn);
       ok = died.ok;
-      told = subst (λ (caller : Standing). IfOk c.died.result (IsToTell d (record desk { caller = caller }))) (sym died.rest) (died_told d ask.0 desk slot c.args.cause ask.2 ask.3 c.requires.death c.died.new.self work c.died.result died.ok);
-      rest = (refl, ap (λ (caller : Standing). caller.seat) died.rest);
+      told = subst (λ (caller : CallerState). IfOk c.died.result (IsToTell d (record desk { caller = caller }))) (sym died.rest) (died_told d ask.0 desk slot c.args.cause ask.2 ask.3 c.requires.death c.died.new.self work c.died.result died.ok);
+      rest = (refl, ap (λ (caller : CallerState). caller.seat) died.rest);
       worn = died.worn;
     }

@@ -1,7 +1,7 @@
 use Rattle.std.proofs.Common.{refl, ◌∙◌, ap, subst}
 use Rattle.xa_server.specs.xa_held.Kept.{Becomes}
 use Rattle.xa_server.specs.xa_held.Steps.{GaveUpAs}
-use Rattle.xa_server.specs.xa_worker.Work.{Standing as Working}
+use Rattle.xa_server.specs.xa_worker.Work.{WorkState}
 use Rattle.xa_desk.specs.declared.desk.Desk.{Desk}
 use Rattle.xa_desk.proofs.Leaving.{leaves}
 use Rattle.xa_desk.proofs.Taking.{own_here, maker_here, left_here, looks_serve}
@@ -31,7 +31,7 @@ pub returns-in-Ok : goal.returns-in-Ok
 returns-in-Ok g c =
     let new : Desk = record c.args.self.now { caller = c.given_up.new.caller; queues = c.leave-last.new.passes } in
     let v = visited (c.enter-visit.ensures.at c.args.self.now c.requires.desk refl) refl c.value.ensures.value c.leave-last.ensures.left new refl refl (one_ours c.args.self.now c.id-maker.result c.in-Ok.field-0.noted.stamp c.in-Ok.field-0.noted.event.value c.id-maker.ensures.value) (subst (GaveUpAs (Becomes c.value.result.now c.gone-answer.new.self) c.stamp-seen.result c.id-maker.result c.server.result) c.in-Ok.is c.gone-answer.ensures) in
-    let caller = c.given_up.ensures.rest ∙ ap (λ (w : Working). record c.args.self.now.caller { work = w }) c.given_up.ensures.noted in
+    let caller = c.given_up.ensures.rest ∙ ap (λ (w : WorkState). record c.args.self.now.caller { work = w }) c.given_up.ensures.noted in
     let left = leaves v.step c.requires.serving c.stamp-seen.result c.id-maker.result c.server.result c.in-Ok.field-0 c.stamp-seen.ensures.value c.server.ensures v.came caller c.given_up.new.self c.given_up.ensures.stands c.given_up.ensures.slot in
     record { leads = left.0; serving = left.1; gone = left.2; board = (refl, refl) }
 

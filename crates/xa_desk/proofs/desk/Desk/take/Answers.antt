@@ -1,7 +1,7 @@
 use Rattle.std.proofs.Common.{Ok, refl, ◌∙◌, ap, subst}
 use Rattle.xa_server.specs.xa_held.Kept.{Kept, Becomes}
 use Rattle.xa_server.specs.xa_held.Steps.{TookAs}
-use Rattle.xa_server.specs.xa_worker.Work.{Standing as Working}
+use Rattle.xa_server.specs.xa_worker.Work.{WorkState}
 use Rattle.xa_server.specs.xa_caller.declared.cargo.Filling.{Filling}
 use Rattle.xa_desk.specs.declared.desk.Desk.{Desk}
 use Rattle.xa_desk.proofs.Requests.{took_goes}
@@ -59,6 +59,6 @@ returns-in-Ok-Request g c =
     let out = c.in-Ok-Request.out in
     let new : Desk = record c.args.self.now { caller = c.begin.new.caller; queues = c.leave-last.new.passes } in
     let v = visited (c.enter-visit.ensures.at c.args.self.now c.requires.desk refl) refl c.value.ensures.value c.leave-last.ensures.left new refl refl (one_ours c.args.self.now c.id-maker.result out.noted.stamp out.noted.event.value c.id-maker.ensures.value) (subst (TookAs (Becomes c.value.result.now c.take-answer.new.self) c.stamp-seen.result c.id-maker.result c.server.result c.life.result) (c.in-Ok-Request.is ∙ ap Ok c.in-Ok-Request.field-0-is) c.take-answer.ensures) in
-    let caller = c.begin.ensures.rest ∙ ap (λ (w : Working). record old { work = w }) c.begin.ensures.noted in
+    let caller = c.begin.ensures.rest ∙ ap (λ (w : WorkState). record old { work = w }) c.begin.ensures.noted in
     let goes = took_goes v.step c.requires.serving c.stamp-seen.result c.id-maker.result c.server.result c.life.result out c.stamp-seen.ensures.value c.id-maker.ensures.value c.server.ensures v.came caller c.life.ensures c.begin.new.self c.begin.ensures.stands c.begin.ensures.slot in
     record { leads = goes.0; serving = goes.1; taken = goes.2; board = (refl, refl) }

@@ -1,6 +1,6 @@
 use Rattle.std.proofs.Common.{ap, ◌∙◌}
 use Rattle.xa_pipe.specs.Life.{is_reading}
-use Rattle.xa_pipe.specs.Standing.{Standing}
+use Rattle.xa_pipe.specs.Standing.{LifeState}
 use Rattle.xa_pipe.proofs.Courses.{kept_heard, fallen_over}
 use Rattle.xa_pipe.proofs.life.Life.listen.Goals as goal
 
@@ -13,5 +13,5 @@ invariant_of-life g c =
 pub end-requires : goal.end-requires
 end-requires g c =
     let done = c.in-Err.ensures in
-    fallen_over c.self.inside.course c.read.new.self c.in-Err.cause done.same (ap (λ (s : Standing). is_reading s.turn) c.self.view_is ∙ c.requires) c.self.invariant (done.why c.self.invariant.read)
+    fallen_over c.self.inside.course c.read.new.self c.in-Err.cause done.same (ap (λ (s : LifeState). is_reading s.turn) c.self.view_is ∙ c.requires) c.self.invariant (done.why c.self.invariant.read)
     done.beside.0 done.counts done.beside.1 done.beside.2

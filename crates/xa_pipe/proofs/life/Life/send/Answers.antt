@@ -4,7 +4,7 @@ use Rattle.xa_pipe.specs.declared.turn.Turn.TheVariants.{AwaitsInvoke, Serving}
 use Rattle.xa_pipe.specs.Life.{Turn, Says, finishes_in}
 use Rattle.xa_pipe.specs.Life.Says.{Invoked as SaysInvoked}
 use Rattle.xa_pipe.specs.Pipe.{invoke_frame}
-use Rattle.xa_pipe.specs.Standing.{Standing}
+use Rattle.xa_pipe.specs.Standing.{LifeState}
 use Rattle.xa_pipe.specs.Changes.{Invoked, next_invoke}
 use Rattle.xa_pipe.specs.Kept.{standing_of}
 use Rattle.xa_pipe.proofs.Courses.{kept_invoked, invokes, unsent_over, in_turn}
@@ -32,6 +32,6 @@ returns-in-Ok-clause-sent g c =
     let old = c.self.inside.course in
     let sent = c.in-Ok.ensures in
     let new = record old { pipe = c.send-sent.new.self; asked = c.note.new.self; turn = Serving } in
-    subst (λ (s : Standing). Invoked (next_invoke c.args.service.now c.args.routine.now c.args.payload.now s) (standing_of new) s) c.self.view_is
+    subst (λ (s : LifeState). Invoked (next_invoke c.args.service.now c.args.routine.now c.args.payload.now s) (standing_of new) s) c.self.view_is
     (invokes old new c.args.service.now c.args.routine.now c.args.payload.now
     (ap (λ (asked : List Frame). record old { pipe = c.send-sent.new.self; asked = asked; turn = Serving }) c.note.ensures) c.self.invariant sent.took sent.gave sent.reads sent.well sent.program)

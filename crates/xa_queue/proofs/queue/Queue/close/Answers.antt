@@ -2,7 +2,7 @@ use Rattle.std.proofs.Common.{◌≡◌, ℕ, true, false, cond, refl, ap, sym, 
 use Rattle.std.proofs.lemmas.Bool.{or_left}
 use Rattle.xa_events.specs.declared.event.Event.TheVariants.{Close}
 use Rattle.xa_lock.specs.declared.makers.Made.{Made}
-use Rattle.xa_queue.specs.Queue.{Standing}
+use Rattle.xa_queue.specs.Queue.{QueueState}
 use Rattle.xa_queue.specs.Reading.{ReadsAsNoted}
 use Rattle.xa_queue.specs.Kept.{standing_of}
 use Rattle.xa_queue.proofs.OneMore.{reads-noted}
@@ -12,11 +12,11 @@ use Rattle.xa_queue.proofs.queue.Queue.close.Goals as goal
 
 pub invariant_of-self : goal.invariant_of-self
 invariant_of-self g c =
-    let q : Standing g.row.C.Denot = standing_of c.self.inside in
+    let q : QueueState g.row.C.Denot = standing_of c.self.inside in
     let i = c.self.invariant in
-    let left : Standing g.row.C.Denot = record q { closed = true } in
+    let left : QueueState g.row.C.Denot = record q { closed = true } in
     let entries = c.add.ensures.entries in
-    let unshut : q.closed ≡ false = ap (λ (s : Standing g.row.C.Denot). s.closed) c.self.view_is ∙ c.requires.unshut in
+    let unshut : q.closed ≡ false = ap (λ (s : QueueState g.row.C.Denot). s.closed) c.self.view_is ∙ c.requires.unshut in
     record {
       reads = subst (λ l. ReadsAsNoted (record left { entries = l })) (sym {A = List Made} entries)
           (reads-noted c.in_ok-stamp.stamp c.args.maker (Close q.id) q left (record { id = refl; capacity = refl; servers = refl; first = refl; entries = refl }) i.reads

@@ -2,7 +2,7 @@ use Rattle.std.proofs.Common.{◌≡◌, ℕ, true, false, cond, refl, ap, sym, 
 use Rattle.std.proofs.lemmas.Bool.{or_left}
 use Rattle.xa_events.specs.declared.event.Event.TheVariants.{Down}
 use Rattle.xa_lock.specs.declared.makers.Made.{Made}
-use Rattle.xa_queue.specs.Queue.{Standing, none_left}
+use Rattle.xa_queue.specs.Queue.{QueueState, none_left}
 use Rattle.xa_queue.specs.Reading.{ReadsAsNoted}
 use Rattle.xa_queue.specs.Kept.{standing_of}
 use Rattle.xa_queue.proofs.OneMore.{reads-noted}
@@ -12,12 +12,12 @@ use Rattle.xa_queue.proofs.queue.Queue.down.Goals as goal
 
 pub invariant_of-self : goal.invariant_of-self
 invariant_of-self g c =
-    let q : Standing g.row.C.Denot = standing_of c.self.inside in
+    let q : QueueState g.row.C.Denot = standing_of c.self.inside in
     let i = c.self.invariant in
-    let left : Standing g.row.C.Denot = record q { down = true } in
-    let deserted : none_left q ≡ true = ap (λ (s : Standing g.row.C.Denot). none_left s) c.self.view_is ∙ c.requires.deserted in
+    let left : QueueState g.row.C.Denot = record q { down = true } in
+    let deserted : none_left q ≡ true = ap (λ (s : QueueState g.row.C.Denot). none_left s) c.self.view_is ∙ c.requires.deserted in
     let entries = c.add.ensures.entries in
-    let up : q.down ≡ false = ap (λ (s : Standing g.row.C.Denot). s.down) c.self.view_is ∙ c.requires.up in
+    let up : q.down ≡ false = ap (λ (s : QueueState g.row.C.Denot). s.down) c.self.view_is ∙ c.requires.up in
     record {
       reads = subst (λ l. ReadsAsNoted (record left { entries = l })) (sym {A = List Made} entries)
           (reads-noted c.in_ok-stamp.stamp c.args.maker (Down q.id) q left (record { id = refl; capacity = refl; servers = refl; first = refl; entries = refl }) i.reads

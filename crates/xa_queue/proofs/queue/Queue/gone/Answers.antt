@@ -2,7 +2,7 @@ use Rattle.std.proofs.Common.{◌≡◌, ◌+◌, ◌≤◌, ◌∷◌, [], leng
 use Rattle.xa_types.specs.declared.ids.ServerId.{ServerId}
 use Rattle.xa_events.specs.declared.event.Event.TheVariants.{Gone}
 use Rattle.xa_lock.specs.declared.makers.Made.{Made}
-use Rattle.xa_queue.specs.Queue.{Standing, IsSound, has_server}
+use Rattle.xa_queue.specs.Queue.{QueueState, IsSound, has_server}
 use Rattle.xa_queue.specs.Reading.{ReadsAsNoted}
 use Rattle.xa_queue.specs.Changes.{with_gone}
 use Rattle.xa_queue.specs.Kept.{standing_of, servers_left}
@@ -14,27 +14,27 @@ use Rattle.xa_queue.proofs.queue.Queue.gone.Goals as goal
 
 pub add-requires-clause-room : goal.add-requires-clause-room
 add-requires-clause-room g c =
-    let own : has_server c.args.server c.self.inside.servers.items ≡ true = ap (λ (s : Standing g.row.C.Denot). has_server c.args.server s.servers) c.self.view_is ∙ c.requires.own in
-    let stays : has_server c.args.server c.self.inside.gone.items ≡ false = ap (λ (s : Standing g.row.C.Denot). has_server c.args.server s.gone) c.self.view_is ∙ c.requires.left in
+    let own : has_server c.args.server c.self.inside.servers.items ≡ true = ap (λ (s : QueueState g.row.C.Denot). has_server c.args.server s.servers) c.self.view_is ∙ c.requires.own in
+    let stays : has_server c.args.server c.self.inside.gone.items ≡ false = ap (λ (s : QueueState g.row.C.Denot). has_server c.args.server s.gone) c.self.view_is ∙ c.requires.left in
     let less = left-less c.args.server c.self.inside.gone.items c.self.inside.servers.items own stays in
     omega (arith, less, c.self.invariant.room)
 
 pub push_reserved-requires : goal.push_reserved-requires
 push_reserved-requires g c =
-    let own : has_server c.args.server c.self.inside.servers.items ≡ true = ap (λ (s : Standing g.row.C.Denot). has_server c.args.server s.servers) c.self.view_is ∙ c.requires.own in
-    let stays : has_server c.args.server c.self.inside.gone.items ≡ false = ap (λ (s : Standing g.row.C.Denot). has_server c.args.server s.gone) c.self.view_is ∙ c.requires.left in
+    let own : has_server c.args.server c.self.inside.servers.items ≡ true = ap (λ (s : QueueState g.row.C.Denot). has_server c.args.server s.servers) c.self.view_is ∙ c.requires.own in
+    let stays : has_server c.args.server c.self.inside.gone.items ≡ false = ap (λ (s : QueueState g.row.C.Denot). has_server c.args.server s.gone) c.self.view_is ∙ c.requires.left in
     let less = left-less c.args.server c.self.inside.gone.items c.self.inside.servers.items own stays in
     let len = c.self.inside.gone.ok in
     omega (arith, less, len, c.self.invariant.places)
 
 pub invariant_of-self : goal.invariant_of-self
 invariant_of-self g c =
-    let q : Standing g.row.C.Denot = standing_of c.self.inside in
+    let q : QueueState g.row.C.Denot = standing_of c.self.inside in
     let i = c.self.invariant in
     let server = c.args.server in
-    let left : Standing g.row.C.Denot = with_gone server q in
-    let own : has_server server q.servers ≡ true = ap (λ (s : Standing g.row.C.Denot). has_server server s.servers) c.self.view_is ∙ c.requires.own in
-    let stays : has_server server q.gone ≡ false = ap (λ (s : Standing g.row.C.Denot). has_server server s.gone) c.self.view_is ∙ c.requires.left in
+    let left : QueueState g.row.C.Denot = with_gone server q in
+    let own : has_server server q.servers ≡ true = ap (λ (s : QueueState g.row.C.Denot). has_server server s.servers) c.self.view_is ∙ c.requires.own in
+    let stays : has_server server q.gone ≡ false = ap (λ (s : QueueState g.row.C.Denot). has_server server s.gone) c.self.view_is ∙ c.requires.left in
     let entries = c.add.ensures.entries in
     let items = c.push_reserved.ensures.items in
     let less = left-less server q.gone q.servers own stays in

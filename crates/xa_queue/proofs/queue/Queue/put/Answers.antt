@@ -2,7 +2,7 @@ use Rattle.std.proofs.Common.{◌≡◌, ◌+◌, ◌<◌, ◌^◌, ◌∷◌, �
 use Rattle.xa_lock.specs.declared.makers.Made.{Made}
 use Rattle.xa_queue.specs.declared.entry.Entry.{Entry}
 use Rattle.xa_queue.specs.Line.{InLine}
-use Rattle.xa_queue.specs.Queue.{Standing}
+use Rattle.xa_queue.specs.Queue.{QueueState}
 use Rattle.xa_queue.specs.Reading.{ReadsAsNoted}
 use Rattle.xa_queue.specs.Changes.{IsEntry, larger, next_stamp, put_refused, with_entry}
 use Rattle.xa_queue.specs.Kept.{standing_of}
@@ -13,23 +13,23 @@ use Rattle.xa_queue.proofs.queue.Queue.put.Goals as goal
 
 pub add-requires-clause-later : goal.add-requires-clause-later
 add-requires-clause-later g c =
-    let q : Standing g.row.C.Denot = standing_of c.self.inside in
-    let fresh = subst (λ (s : Standing g.row.C.Denot). (larger c.args.seen s < 2 ^ 63) × (c.in-Ok.stamp ≡ next_stamp c.args.seen s)) (sym c.self.view_is) c.in-Ok.ensures.stamp in
+    let q : QueueState g.row.C.Denot = standing_of c.self.inside in
+    let fresh = subst (λ (s : QueueState g.row.C.Denot). (larger c.args.seen s < 2 ^ 63) × (c.in-Ok.stamp ≡ next_stamp c.args.seen s)) (sym c.self.view_is) c.in-Ok.ensures.stamp in
     let stamp = next-noted c.args.seen c.in-Ok.stamp q c.reserve.new.self (c.self.invariant.first ∙ sym c.reserve.ensures.first) c.reserve.ensures.entries fresh in
     omega (arith, stamp.0)
 
 pub invariant_of-self-2 : goal.invariant_of-self-2
 invariant_of-self-2 g c =
-    let q : Standing g.row.C.Denot = standing_of c.self.inside in
+    let q : QueueState g.row.C.Denot = standing_of c.self.inside in
     let i = c.self.invariant in
     let entry = c.args.entry in
-    let left : Standing g.row.C.Denot = with_entry entry q in
-    let allowed : put_refused c.args.seen q ≡ None = ap (λ (s : Standing g.row.C.Denot). put_refused c.args.seen s) c.self.view_is ∙ c.in-Ok.ensures.allowed in
-    let its : IsEntry q.id entry c.args.event = subst (λ (s : Standing g.row.C.Denot). IsEntry s.id entry c.args.event) (sym c.self.view_is) c.requires.event in
+    let left : QueueState g.row.C.Denot = with_entry entry q in
+    let allowed : put_refused c.args.seen q ≡ None = ap (λ (s : QueueState g.row.C.Denot). put_refused c.args.seen s) c.self.view_is ∙ c.in-Ok.ensures.allowed in
+    let its : IsEntry q.id entry c.args.event = subst (λ (s : QueueState g.row.C.Denot). IsEntry s.id entry c.args.event) (sym c.self.view_is) c.requires.event in
     let free : IsOpen q = is_open c.args.seen q i.sound.few allowed in
     let pushed = c.in_default.ensures.pushed in
     let waiting = ap (λ (line : InLine g.row.C.Denot). line.waiting) pushed in
-    let fresh = subst (λ (s : Standing g.row.C.Denot). (larger c.args.seen s < 2 ^ 63) × (c.in-Ok.stamp ≡ next_stamp c.args.seen s)) (sym c.self.view_is) c.in-Ok.ensures.stamp in
+    let fresh = subst (λ (s : QueueState g.row.C.Denot). (larger c.args.seen s < 2 ^ 63) × (c.in-Ok.stamp ≡ next_stamp c.args.seen s)) (sym c.self.view_is) c.in-Ok.ensures.stamp in
     let stamp = next-noted c.args.seen c.in-Ok.stamp q c.reserve.new.self (i.first ∙ sym c.reserve.ensures.first) c.reserve.ensures.entries fresh in
     let added = c.add.ensures.entries in
     let entries = added ∙ ap (λ (l : List Made). l ++ record { maker = c.args.maker; noted = record { stamp = c.in-Ok.stamp; event = c.args.event } } ∷ []) c.reserve.ensures.entries in

@@ -3,7 +3,7 @@ use Rattle.xa_events.specs.declared.event.Event.{Event}
 use Rattle.xa_events.specs.declared.event.Event.TheVariants.{Sweep}
 use Rattle.xa_lock.specs.declared.makers.Made.{Made}
 use Rattle.xa_queue.specs.declared.entry.Entry.{Entry}
-use Rattle.xa_queue.specs.Queue.{Standing}
+use Rattle.xa_queue.specs.Queue.{QueueState}
 use Rattle.xa_queue.specs.Reading.{ReadsAsNoted}
 use Rattle.xa_queue.specs.Kept.{standing_of}
 use Rattle.xa_queue.proofs.OneMore.{reads-noted}
@@ -13,15 +13,15 @@ use Rattle.xa_queue.proofs.queue.Queue.sweep.Goals as goal
 
 pub invariant_of-self : goal.invariant_of-self
 invariant_of-self g c =
-    let q : Standing g.row.C.Denot = standing_of c.self.inside in
+    let q : QueueState g.row.C.Denot = standing_of c.self.inside in
     let i = c.self.invariant in
     let entry = c.take-entry.result in
     let out = c.take-entry.ensures.taken in
     let rest : List (Entry g.row.C.Denot) = c.take-entry.new.self.waiting in
     let was : q.waiting ≡ entry ∷ rest = out.was ∙ ap (λ front. front ++ entry ∷ out.back) out.chosen ∙ ap (λ l. entry ∷ l) (sym (out.left ∙ ap (λ front. front ++ out.back) out.chosen)) in
-    let left : Standing g.row.C.Denot = record q { waiting = rest } in
+    let left : QueueState g.row.C.Denot = record q { waiting = rest } in
     let e : Event = Sweep (record { request = entry.request; queue = q.id }) in
-    let down : q.down ≡ true = ap (λ (s : Standing g.row.C.Denot). s.down) c.self.view_is ∙ c.requires.down in
+    let down : q.down ≡ true = ap (λ (s : QueueState g.row.C.Denot). s.down) c.self.view_is ∙ c.requires.down in
     let entries = c.add.ensures.entries in
     let fewer : length q.waiting ≡ length rest + 1 = one_less [] entry rest q.waiting was in
     record {

@@ -3,7 +3,7 @@ use Rattle.xa_events.specs.declared.event.Event.{Event}
 use Rattle.xa_lock.specs.declared.makers.Made.{Made}
 use Rattle.xa_queue.specs.declared.entry.Entry.{Entry}
 use Rattle.xa_lock.specs.Makers.{noted_in}
-use Rattle.xa_queue.specs.Queue.{Standing, has_server}
+use Rattle.xa_queue.specs.Queue.{QueueState, has_server}
 use Rattle.xa_queue.specs.Reading.{ReadsAsNoted}
 use Rattle.xa_queue.specs.Changes.{taken}
 use Rattle.xa_queue.specs.Kept.{standing_of}
@@ -20,16 +20,16 @@ overflow_add-k g c =
 
 pub invariant_of-self : goal.invariant_of-self
 invariant_of-self g c =
-    let q : Standing g.row.C.Denot = standing_of c.self.inside in
+    let q : QueueState g.row.C.Denot = standing_of c.self.inside in
     let i = c.self.invariant in
     let server = c.args.server in
     let entry = c.take-entry.result in
     let out = c.take-entry.ensures.taken in
     let rest : List (Entry g.row.C.Denot) = out.front ++ out.back in
-    let left : Standing g.row.C.Denot = record q { waiting = rest; takes = q.takes + 1 } in
+    let left : QueueState g.row.C.Denot = record q { waiting = rest; takes = q.takes + 1 } in
     let e : Event = taken entry server c.args.generation q in
-    let own : has_server server q.servers ≡ true = ap (λ (s : Standing g.row.C.Denot). has_server server s.servers) c.self.view_is ∙ c.requires.own in
-    let stays : has_server server q.gone ≡ false = ap (λ (s : Standing g.row.C.Denot). has_server server s.gone) c.self.view_is ∙ c.requires.left in
+    let own : has_server server q.servers ≡ true = ap (λ (s : QueueState g.row.C.Denot). has_server server s.servers) c.self.view_is ∙ c.requires.own in
+    let stays : has_server server q.gone ≡ false = ap (λ (s : QueueState g.row.C.Denot). has_server server s.gone) c.self.view_is ∙ c.requires.left in
     let up : q.down ≡ false = is_up q server i.sound own stays in
     let entries = c.add.ensures.entries in
     let fewer : length q.waiting ≡ length rest + 1 = one_less out.front entry out.back q.waiting out.was in

@@ -1,15 +1,15 @@
 use Rattle.std.proofs.Common.{◌≡◌, ◌==◌, ◌&&◌, length, nat_lt, false, sym, ◌∙◌, ap, subst}
 use Rattle.std.specs.List.{count_by}
 use Rattle.xa_events.specs.Words.{count}
-use Rattle.xa_restart.specs.Rule.{Standing, IsLast, may_start_by}
+use Rattle.xa_restart.specs.Rule.{RestartState, IsLast, may_start_by}
 use Rattle.xa_restart.specs.Within.{is_within}
 use Rattle.xa_restart.specs.Kept.{standing_of, is_nil}
 use Rattle.xa_restart.proofs.Recalling.{count_is, rule_more, is_nil_length}
 use Rattle.xa_restart.proofs.lives.Lives.may_start.Goals as goal
 
 pub returns-then-self : goal.returns-then-self
-returns-then-self c = subst (λ (u : Standing). IsLast c.args.now u.starts → nat_lt c.lately.result c.from.result ≡ may_start_by u c.args.now) c.self.view_is (λ last.
-    let s : Standing = standing_of c.self.inside in
+returns-then-self c = subst (λ (u : RestartState). IsLast c.args.now u.starts → nat_lt c.lately.result c.from.result ≡ may_start_by u c.args.now) c.self.view_is (λ last.
+    let s : RestartState = standing_of c.self.inside in
     let i = c.self.invariant in
     let w = is_within s.grace c.args.now in
     let len = ap length (sym c.deref.ensures.value) ∙ c.deref.ensures.len in

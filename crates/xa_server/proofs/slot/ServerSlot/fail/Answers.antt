@@ -5,8 +5,8 @@ use Rattle.xa_caller.specs.xa_events.declared.event.Ended.{Ended}
 use Rattle.xa_caller.specs.xa_events.declared.event.Event.TheVariants.{End}
 use Rattle.xa_caller.specs.xa_events.declared.event.Outcome.TheVariants.{BadForward}
 use Rattle.xa_caller.specs.xa_queue.declared.entry.Entry.{Entry}
-use Rattle.xa_caller.specs.xa_worker.Work.{Standing, IsNext, noted_here}
-use Rattle.xa_caller.specs.Caller.{Standing as Caller}
+use Rattle.xa_caller.specs.xa_worker.Work.{WorkState, IsNext, noted_here}
+use Rattle.xa_caller.specs.Caller.{CallerState}
 use Rattle.xa_caller.specs.Drafts.{Cargo}
 use Rattle.xa_caller.specs.Serving.{raised, version_ended}
 use Rattle.xa_server.specs.declared.slot.ServerSlot.{ServerSlot}
@@ -28,8 +28,8 @@ note_anew-requires-clause-next c =
 pub returns-clause-ok : goal.returns-clause-ok
 returns-clause-ok c =
     let s : ServerSlot = c.args.self.now in
-    let old : Caller = c.args.caller.now in
-    let new : Caller = c.note_anew.new.caller in
+    let old : CallerState = c.args.caller.now in
+    let new : CallerState = c.note_anew.new.caller in
     let h = holding s.doing s.hand c.requires.stands.hand c.requires.busy in
     let noted = c.in_ok-stamp.ensures.noted in
     let stamp = c.in_ok-stamp.stamp in
@@ -54,12 +54,12 @@ returns-clause-ok c =
 pub returns-clause-stands : goal.returns-clause-stands
 returns-clause-stands c =
     let s : ServerSlot = c.args.self.now in
-    let w : Standing = c.args.caller.now.work in
+    let w : WorkState = c.args.caller.now.work in
     let h = holding s.doing s.hand c.requires.stands.hand c.requires.busy in
     let noted = c.in_ok-stamp.ensures.noted in
     let stamp = c.in_ok-stamp.stamp in
     let new : Generation → Option (Entry Cargo) → ServerSlot = λ g hand. record s { doing = Idle g; hand = hand; last = Well } in
-    subst (λ (v : Standing). Stands (new c.life_in-life.result c.take_out.new.hand) v) (sym noted.made)
+    subst (λ (v : WorkState). Stands (new c.life_in-life.result c.take_out.new.hand) v) (sym noted.made)
     (subst (λ (e : Ended). Stands (new c.life_in-life.result c.take_out.new.hand) (noted_here (record { stamp = stamp; event = End e }) (with_room 3 w))) (sym (c.end_with-ended.ensures h.0 h.1))
     (subst (λ g. Stands (new g c.take_out.new.hand) (noted_here (record { stamp = stamp; event = End (end_of s h.0 (BadForward c.args.version)) }) (with_room 3 w))) (sym c.life_in-life.ensures)
     (subst (λ hand. Stands (new (life_in s.doing) hand) (noted_here (record { stamp = stamp; event = End (end_of s h.0 (BadForward c.args.version)) }) (with_room 3 w))) (sym c.take_out.ensures.now)

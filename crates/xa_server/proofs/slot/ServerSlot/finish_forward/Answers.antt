@@ -7,7 +7,7 @@ use Rattle.xa_caller.specs.xa_types.Rows.{row_for}
 use Rattle.xa_caller.specs.xa_events.declared.event.Doing.TheVariants.{Busy}
 use Rattle.xa_caller.specs.xa_events.declared.event.Event.TheVariants.{Forward}
 use Rattle.xa_caller.specs.xa_queue.declared.entry.Entry.{Entry}
-use Rattle.xa_caller.specs.Caller.{Standing as Caller}
+use Rattle.xa_caller.specs.Caller.{CallerState}
 use Rattle.xa_caller.specs.Drafts.{Cargo, entry_behind}
 use Rattle.xa_server.specs.declared.slot.ServerSlot.{ServerSlot}
 use Rattle.xa_server.specs.declared.forwarding.Forwarding.TheVariants.{On}
@@ -30,7 +30,7 @@ overflow_add-hop c =
 made : (c : goal.After-behind) → GoesBy c.args.found.now.version c.in-Ok.row c.args.caller.now.priority (c.take_out-held.result.cargo.invocation.hop + 1) c.args.payload c.take_out-held.result c.behind.result c.forward-event.result c.args.self.now
 made c =
     let s : ServerSlot = c.args.self.now in
-    let old : Caller = c.args.caller.now in
+    let old : CallerState = c.args.caller.now in
     let held : Entry Cargo = c.take_out-held.result in
     let row : Row = c.in-Ok.row in
     let hop = held.cargo.invocation.hop + 1 in
@@ -43,7 +43,7 @@ made c =
 pub returns-in-Ok-copy-clause-ok : goal.returns-in-Ok-copy-clause-ok
 returns-in-Ok-copy-clause-ok c =
     let s : ServerSlot = c.args.self.now in
-    let old : Caller = c.args.caller.now in
+    let old : CallerState = c.args.caller.now in
     subst (λ way. ForwardsAs c.args.found.now.version c.args.payload way (On c.behind.result c.forward-event.result) (record s { hand = c.take_out-held.new.hand }) s old old) c.in-Ok.ensures (record {
       held = c.take_out-held.result;
       in_hand = c.take_out-held.ensures.was;
@@ -55,7 +55,7 @@ returns-in-Ok-copy-clause-ok c =
 pub returns-in-Ok-copy-clause-left : goal.returns-in-Ok-copy-clause-left
 returns-in-Ok-copy-clause-left c =
     let s : ServerSlot = c.args.self.now in
-    let old : Caller = c.args.caller.now in
+    let old : CallerState = c.args.caller.now in
     let held : Entry Cargo = c.take_out-held.result in
     let row : Row = c.in-Ok.row in
     let by = goes_by c.args.setup.now c.args.service.now c.args.payload (hop_in s.hand) c.args.found.now row (sym c.in-Ok.ensures) in

@@ -14,7 +14,7 @@ use Rattle.xa_caller.specs.xa_events.Finishing.{returned, return_by}
 use Rattle.xa_caller.specs.xa_events.Request.Settlement.{EndedBy}
 use Rattle.xa_caller.specs.xa_events.Server.{after_end}
 use Rattle.xa_caller.specs.xa_queue.declared.entry.Entry.{Entry}
-use Rattle.xa_caller.specs.xa_worker.Work.{Standing, IsNext, theirs, noted_here}
+use Rattle.xa_caller.specs.xa_worker.Work.{WorkState, IsNext, theirs, noted_here}
 use Rattle.xa_server.specs.declared.slot.ServerSlot.{ServerSlot}
 use Rattle.xa_server.specs.declared.slot.Last.{Last}
 use Rattle.xa_caller.specs.Drafts.{Cargo}
@@ -28,7 +28,7 @@ use Rattle.xa_server.proofs.slot.ServerSlot.finish_return.Goals as goal
 pub note_anew-requires-clause-next : goal.note_anew-requires-clause-next
 note_anew-requires-clause-next c =
     let s : ServerSlot = c.args.self.now in
-    let w : Standing = c.args.caller.now.work in
+    let w : WorkState = c.args.caller.now.work in
     let h = holding s.doing s.hand c.requires.stands.hand c.requires.busy in
     let may = return_may w.setup c.args.sound c.args.value c.args.code c.args.payload c.requires.sound in
     let is = c.outcome_by-outcome.ensures ∙ ap (λ (z : ℤ). if c.args.sound then returned c.args.value z c.args.payload else BadReturn) (to_z-of_z c.ranges.code) in
@@ -39,7 +39,7 @@ note_anew-requires-clause-next c =
 pub returns-clause-ok : goal.returns-clause-ok
 returns-clause-ok c =
     let s : ServerSlot = c.args.self.now in
-    let w : Standing = c.args.caller.now.work in
+    let w : WorkState = c.args.caller.now.work in
     let h = holding s.doing s.hand c.requires.stands.hand c.requires.busy in
     let o : Outcome = c.outcome_by-outcome.result in
     let noted = c.in_ok-stamp.ensures.noted in
@@ -72,14 +72,14 @@ returns-clause-ok c =
 pub returns-clause-stands : goal.returns-clause-stands
 returns-clause-stands c =
     let s : ServerSlot = c.args.self.now in
-    let w : Standing = c.args.caller.now.work in
+    let w : WorkState = c.args.caller.now.work in
     let h = holding s.doing s.hand c.requires.stands.hand c.requires.busy in
     let o : Outcome = c.outcome_by-outcome.result in
     let noted = c.in_ok-stamp.ensures.noted in
     let stamp = c.in_ok-stamp.stamp in
     let doing : c.after_end-doing.result ≡ after_end o (life_in s.doing) = c.after_end-doing.ensures ∙ ap (after_end o) c.life_in.ensures in
     let new : Doing → Option (Entry Cargo) → Last → ServerSlot = λ d hand last. record s { doing = d; hand = hand; last = last } in
-    subst (λ (v : Standing). Stands (new c.after_end-doing.result c.take_out.new.hand c.last_by-last.result) v) (sym noted.made)
+    subst (λ (v : WorkState). Stands (new c.after_end-doing.result c.take_out.new.hand c.last_by-last.result) v) (sym noted.made)
     (subst (λ (e : Ended). Stands (new c.after_end-doing.result c.take_out.new.hand c.last_by-last.result) (noted_here (record { stamp = stamp; event = End e }) (with_room 3 w))) (sym (c.end_with-ended.ensures h.0 h.1))
     (subst (λ (d : Doing). Stands (new d c.take_out.new.hand c.last_by-last.result) (noted_here (record { stamp = stamp; event = End (end_of s h.0 o) }) (with_room 3 w))) (sym doing)
     (subst (λ hand. Stands (new (after_end o (life_in s.doing)) hand c.last_by-last.result) (noted_here (record { stamp = stamp; event = End (end_of s h.0 o) }) (with_room 3 w))) (sym c.take_out.ensures.now)

@@ -6,7 +6,7 @@ use Rattle.xa_caller.specs.xa_types.Kind.{is_sound}
 use Rattle.xa_caller.specs.xa_types.Rows.{row_for}
 use Rattle.xa_caller.specs.xa_events.declared.event.Event.TheVariants.{Forward}
 use Rattle.xa_caller.specs.xa_queue.declared.entry.Entry.{Entry}
-use Rattle.xa_caller.specs.Caller.{Standing as Caller}
+use Rattle.xa_caller.specs.Caller.{CallerState}
 use Rattle.xa_caller.specs.Drafts.{Cargo, entry_behind}
 use Rattle.xa_caller.proofs.Unsent.{at-all}
 use Rattle.xa_server.specs.declared.slot.ServerSlot.{ServerSlot}
@@ -17,7 +17,7 @@ use Rattle.xa_server.proofs.slot.ServerSlot.forward_again.Goals as goal
 pub returns-clause-on_way : goal.returns-clause-on_way
 returns-clause-on_way c event service way rows recent =
     let s : ServerSlot = c.args.self.now in
-    let old : Caller = c.args.caller.now in
+    let old : CallerState = c.args.caller.now in
     let entry : Entry Cargo = c.args.entry in
     let row : Row = c.in-Some.row in
     let hop = entry.cargo.invocation.hop in

@@ -8,7 +8,7 @@ use Rattle.xa_caller.specs.xa_events.declared.event.Outcome.{Outcome}
 use Rattle.xa_caller.specs.xa_events.Caller.{version_of}
 use Rattle.xa_caller.specs.xa_events.Cases.{may_end_so, is_starved}
 use Rattle.xa_caller.specs.xa_events.Server.{after_end}
-use Rattle.xa_caller.specs.xa_worker.Work.{Standing, IsNext, noted_here}
+use Rattle.xa_caller.specs.xa_worker.Work.{WorkState, IsNext, noted_here}
 use Rattle.xa_server.specs.declared.slot.ServerSlot.{ServerSlot}
 use Rattle.xa_server.specs.declared.slot.Last.{Last}
 use Rattle.xa_server.specs.Doings.{life_in, last_by, outcome_of}
@@ -19,7 +19,7 @@ use Rattle.xa_server.proofs.slot.ServerSlot.lose.Goals as goal
 pub note_in_room-requires-clause-next : goal.note_in_room-requires-clause-next
 note_in_room-requires-clause-next c =
     let s : ServerSlot = c.args.self.now in
-    let w : Standing = c.args.caller.now.work in
+    let w : WorkState = c.args.caller.now.work in
     let h = holding s.doing s.hand c.requires.stands.hand c.requires.busy in
     let may = bad_ends w.setup (is_starved c.args.cause) in
     let is = c.outcome_of-outcome.ensures in
@@ -30,11 +30,11 @@ note_in_room-requires-clause-next c =
 pub returns-clause-stands : goal.returns-clause-stands
 returns-clause-stands c =
     let s : ServerSlot = c.args.self.now in
-    let w : Standing = c.args.caller.now.work in
+    let w : WorkState = c.args.caller.now.work in
     let h = holding s.doing s.hand c.requires.stands.hand c.requires.busy in
     let stamp = c.in_ok-stamp.stamp in
     let new : Generation → Last → ServerSlot = λ g last. record s { doing = Dying g; last = last } in
-    subst (λ (v : Standing). Stands (new c.life_in.result c.last_by-last.result) v) (sym c.in_ok-stamp.ensures.noted.made)
+    subst (λ (v : WorkState). Stands (new c.life_in.result c.last_by-last.result) v) (sym c.in_ok-stamp.ensures.noted.made)
     (subst (λ (e : Ended). Stands (new c.life_in.result c.last_by-last.result) (noted_here (record { stamp = stamp; event = End e }) w)) (sym (c.end_with-ended.ensures h.0 h.1))
     (subst (λ g. Stands (new g c.last_by-last.result) (noted_here (record { stamp = stamp; event = End (end_of s h.0 c.outcome_of-outcome.result) }) w)) (sym c.life_in.ensures)
     (subst (λ (l : Last). Stands (new (life_in s.doing) l) (noted_here (record { stamp = stamp; event = End (end_of s h.0 c.outcome_of-outcome.result) }) w)) (sym c.last_by-last.ensures)
@@ -44,7 +44,7 @@ returns-clause-stands c =
 pub returns-clause-ok : goal.returns-clause-ok
 returns-clause-ok c =
     let s : ServerSlot = c.args.self.now in
-    let w : Standing = c.args.caller.now.work in
+    let w : WorkState = c.args.caller.now.work in
     let h = holding s.doing s.hand c.requires.stands.hand c.requires.busy in
     let o : Outcome = outcome_of c.args.cause in
     let noted = c.in_ok-stamp.ensures.noted in

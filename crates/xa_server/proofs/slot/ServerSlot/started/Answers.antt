@@ -3,7 +3,7 @@ use Rattle.xa_caller.specs.xa_events.declared.event.Started.{Started}
 use Rattle.xa_caller.specs.xa_events.declared.event.Doing.TheVariants.{Idle}
 use Rattle.xa_caller.specs.xa_events.declared.event.Event.TheVariants.{Start}
 use Rattle.xa_restart.specs.Rule.{IsLast}
-use Rattle.xa_caller.specs.xa_worker.Work.{Standing, IsNext, noted_here}
+use Rattle.xa_caller.specs.xa_worker.Work.{WorkState, IsNext, noted_here}
 use Rattle.xa_server.specs.declared.slot.ServerSlot.{ServerSlot}
 use Rattle.xa_server.specs.Noting.{with_room}
 use Rattle.xa_server.specs.Slot.{Stands}
@@ -25,11 +25,11 @@ record_start-requires-clause-last c =
 pub returns-clause-stands : goal.returns-clause-stands
 returns-clause-stands c =
     let s : ServerSlot = c.args.self.now in
-    let w : Standing = c.args.caller.now.work in
+    let w : WorkState = c.args.caller.now.work in
     let b : Started = c.next-started.result in
     let noted = c.in_ok-note_anew.ensures.noted in
     let stamp = c.in_ok-note_anew.field-0 in
     subst (λ (u : ServerSlot). Stands (record u { doing = Idle b.generation }) c.note_anew.new.caller.work) (sym c.record_start.ensures)
-    (subst (λ (v : Standing). Stands (record (with_start b.tick s) { doing = Idle b.generation }) v) (sym noted.made)
+    (subst (λ (v : WorkState). Stands (record (with_start b.tick s) { doing = Idle b.generation }) v) (sym noted.made)
     (subst (λ (b : Started). Stands (record (with_start b.tick s) { doing = Idle b.generation }) (noted_here (record { stamp = stamp; event = Start b }) (with_room 3 w))) (sym c.next-started.ensures)
     (starts_stands s w c.requires.stands (record { 0 = s.made + 1 }) c.args.tick stamp c.requires.may noted.next)))

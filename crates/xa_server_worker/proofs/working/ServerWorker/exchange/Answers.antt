@@ -27,7 +27,7 @@ forwarded-requires-clause-before g c = λ κs within.
       has.t,
       sent_in w c.args.life has c.invocation-asked.result.now c.invocation-asked.ensures c.in-Ok.life c.in-Ok.ensures.sent,
       subst (λ (b : Finish). Heard (finish_frame (tag_of c.in-Ok.life) b) c.in-Ok-hear.field-0.life c.in-Ok.life) c.in-Forwards.is c.in-Ok-hear.ensures.heard,
-      subst (λ h. IfSome h (IsTaken c.args.domain.now w.queue.0 has.t w.desk)) (sym has.hand) has.taken,
+      subst (λ h. IfSome h (IsTaken c.args.monitor.now.domain.now w.queue.0 has.t w.desk)) (sym has.hand) has.taken,
     )
 
 pub died-requires-in-Err-hear-clause-may : goal.died-requires-in-Err-hear-clause-may

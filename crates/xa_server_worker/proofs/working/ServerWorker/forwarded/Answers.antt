@@ -13,7 +13,7 @@ go_on-requires-clause-life g c =
     let b = c.requires.before in
     let slot' = c.forward.new.slot in
     let desk' = c.forward.new.desk in
-    let passes = subst (λ n. Passes c.args.domain.now n c.args.forwards.service c.args.forwards.payload c.in-Ok.closing w.served.slot slot' w.desk desk') b.2.at.serving.its c.in-Ok.ensures in
+    let passes = subst (λ n. Passes c.args.monitor.now.domain.now n c.args.forwards.service c.args.forwards.payload c.in-Ok.closing w.served.slot slot' w.desk desk') b.2.at.serving.its c.in-Ok.ensures in
     λ κs within. forwarded_in w c.args.life b.0 b.1.request c.args.forwards c.in-Ok.closing slot' desk' b.3 b.2 passes
 
 pub returns-in-Ok-clause-goes : goal.returns-in-Ok-clause-goes
@@ -31,7 +31,7 @@ returns-in-Err-clause-halted g c =
     let b = c.requires.before in
     let slot' = c.forward.new.slot in
     let desk' = c.forward.new.desk in
-    let keeps = subst (λ n. Keeps c.args.domain.now n c.in-Err.halt w.served.slot slot' w.desk desk') b.2.at.serving.its c.in-Err.ensures in
+    let keeps = subst (λ n. Keeps c.args.monitor.now.domain.now n c.in-Err.halt w.served.slot slot' w.desk desk') b.2.at.serving.its c.in-Err.ensures in
     let at = work_on w slot' desk' [] b.0.generation keeps.serves (All-nil (OfLife w.served.slot.made)) (still_calm w.desk desk' keeps.own keeps.seat) b.2.at in
     let server = keeps.serves.server in
     let becomes : Becomes b.0.asked c.args.life b.0 = record { link = c.args.life.link; said = _; turn = _; made = b.3.made } in

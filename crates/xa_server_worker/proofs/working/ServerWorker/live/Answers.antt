@@ -1,5 +1,5 @@
 use Rattle.std.proofs.Common.{[], map, Option, ap, subst}
-use Rattle.xa_desk.specs.xa_pipe.Standing.{Standing as Life}
+use Rattle.xa_desk.specs.xa_pipe.Standing.{LifeState}
 use Rattle.xa_desk.specs.xa_worker.Work.{theirs}
 use Rattle.xa_desk.specs.xa_server.Served.{Tries, Counts}
 use Rattle.xa_desk.specs.declared.stopped.Stopped.TheVariants.{Elsewhere}
@@ -14,7 +14,7 @@ pub returns-then-is_some-clause-halted : goal.returns-then-is_some-clause-halted
 returns-then-is_some-clause-halted g c =
     let w = c.args.self.now in
     let at = c.requires.off.off.at in
-    halts_at w w.cut [] Elsewhere at (ap (λ (o : Option Life). map (λ (life : Life). life.generation) (cut_in o)) at.cut) (none_off (HandsOn c.args.domain.now w.queue.0 w.served.slot.server.0 w.desk) w.cut at.cut) (none_off (IsCut w.name w.served.slot.server.0 (theirs w.desk.caller.work)) w.cut at.cut) tt
+    halts_at w w.cut [] Elsewhere at (ap (λ (o : Option LifeState). map (λ (life : LifeState). life.generation) (cut_in o)) at.cut) (none_off (HandsOn c.args.monitor.now.domain.now w.queue.0 w.served.slot.server.0 w.desk) w.cut at.cut) (none_off (IsCut w.name w.served.slot.server.0 (theirs w.desk.caller.work)) w.cut at.cut) tt
 
 pub returns-in-Ok-None-clause-off : goal.returns-in-Ok-None-clause-off
 returns-in-Ok-None-clause-off g c =

@@ -16,7 +16,7 @@ returns-in-Shut-clause-goes g c =
 
 pub loop-preserved : goal.loop-preserved
 loop-preserved g c =
-    let d = c.args.domain.now in
+    let d = c.args.monitor.now.domain.now in
     let l = c.live.new.self in
     let over = subst (λ o. OffAs d g.T.Starter.shows o l) c.in-Dead.is c.in_ok-live.ensures.off in
     record {
@@ -26,7 +26,7 @@ loop-preserved g c =
 
 pub retire-retired-requires-clause-may : goal.retire-retired-requires-clause-may
 retire-retired-requires-clause-may g c κs within =
-    let d = c.args.domain.now in
+    let d = c.args.monitor.now.domain.now in
     let l = c.live.new.self in
     let over = subst (λ o. OffAs d g.T.Starter.shows o l) c.in-Dead.is c.in_ok-live.ensures.off in
     let floor = over.0.at.floor in
@@ -34,14 +34,14 @@ retire-retired-requires-clause-may g c κs within =
 
 pub tell_if-requires-in-loop-clause-told : goal.tell_if-requires-in-loop-clause-told
 tell_if-requires-in-loop-clause-told g c κs within =
-    let d = c.args.domain.now in
+    let d = c.args.monitor.now.domain.now in
     let l = c.live.new.self in
     let over = subst (λ o. OffAs d g.T.Starter.shows o l) c.in-Dead.is c.in_ok-live.ensures.off in
     told_on c.retire-retired.ensures.retires.steps.leads c.latest-rises.ensures.rises c.in-Dead.closing over.1
 
 pub returns-in-loop-clause-goes : goal.returns-in-loop-clause-goes
 returns-in-loop-clause-goes g c =
-    let d = c.args.domain.now in
+    let d = c.args.monitor.now.domain.now in
     let l = c.live.new.self in
     let over = subst (λ o. OffAs d g.T.Starter.shows o l) c.in-Dead.is c.in_ok-live.ensures.off in
     let retired = at_desk l c.retire-retired.new.slot c.retire-retired.new.desk in
@@ -52,7 +52,7 @@ returns-in-loop-clause-goes g c =
 
 pub returns-in-loop-clause-ended : goal.returns-in-loop-clause-ended
 returns-in-loop-clause-ended g c =
-    let d = c.args.domain.now in
+    let d = c.args.monitor.now.domain.now in
     let l = c.live.new.self in
     let over = subst (λ o. OffAs d g.T.Starter.shows o l) c.in-Dead.is c.in_ok-live.ensures.off in
     let retired = at_desk l c.retire-retired.new.slot c.retire-retired.new.desk in

@@ -4,6 +4,6 @@ use Rattle.xa_server_worker.proofs.working.ServerWorker.live_all.Given as goal
 -- the server is off, and may be started
 abbrev pub invariant-loop : goal.invariant-loop
 invariant-loop g l = record {
-  goes : Goes l.domain l.fn.self l.self;
-  off : MayGoOn l.domain g.T.Starter.shows l.self;
+  goes : Goes l.monitor.domain.now l.fn.self l.self;
+  off : MayGoOn l.monitor.domain.now g.T.Starter.shows l.self;
 }

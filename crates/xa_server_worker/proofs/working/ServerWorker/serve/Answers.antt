@@ -11,13 +11,13 @@ use Rattle.xa_server_worker.proofs.working.ServerWorker.serve.Goals as goal
 pub shut_down-requires-clause-free : goal.shut_down-requires-clause-free
 shut_down-requires-clause-free g c =
     let l = c.loop.self in
-    let shut = subst (λ b. NextFrom c.args.domain.now l.queue.0 (Ok b) l.served.slot c.next-in-loop.new.slot l.desk c.next-in-loop.new.desk) c.in-Ok-false.field-0-test c.in-Ok-false.ensures in
+    let shut = subst (λ b. NextFrom c.args.monitor.now.domain.now l.queue.0 (Ok b) l.served.slot c.next-in-loop.new.slot l.desk c.next-in-loop.new.desk) c.in-Ok-false.field-0-test c.in-Ok-false.ensures in
     in_on l c.next-in-loop.new.slot c.next-in-loop.new.desk _ _ 0 c.loop.life shut.0.serves shut.0.same (still_calm l.desk c.next-in-loop.new.desk shut.0.noted shut.0.seat) c.loop.invariant.free
 
 pub returns-in-Ok-false-clause-goes : goal.returns-in-Ok-false-clause-goes
 returns-in-Ok-false-clause-goes g c =
     let l = c.loop.self in
-    let shut = subst (λ b. NextFrom c.args.domain.now l.queue.0 (Ok b) l.served.slot c.next-in-loop.new.slot l.desk c.next-in-loop.new.desk) c.in-Ok-false.field-0-test c.in-Ok-false.ensures in
+    let shut = subst (λ b. NextFrom c.args.monitor.now.domain.now l.queue.0 (Ok b) l.served.slot c.next-in-loop.new.slot l.desk c.next-in-loop.new.desk) c.in-Ok-false.field-0-test c.in-Ok-false.ensures in
     let waited = at_desk l c.next-in-loop.new.slot c.next-in-loop.new.desk in
     goes_trans c.args.self.now waited c.shut_down.new.self (goes_trans c.args.self.now l waited c.loop.invariant.goes (goes_by l waited [] shut.0.serves.steps shut.0.serves.server refl refl)) c.shut_down.ensures.goes
 
@@ -38,29 +38,29 @@ returns-in-Err-clause-halted g c =
 pub exchange-requires-clause-taken : goal.exchange-requires-clause-taken
 exchange-requires-clause-taken g c κs within =
     let l = c.loop.self in
-    let took = subst (λ b. NextFrom c.args.domain.now l.queue.0 (Ok b) l.served.slot c.next-in-loop.new.slot l.desk c.next-in-loop.new.desk) c.in-Ok-true.field-0-test c.in-Ok-true.ensures in
+    let took = subst (λ b. NextFrom c.args.monitor.now.domain.now l.queue.0 (Ok b) l.served.slot c.next-in-loop.new.slot l.desk c.next-in-loop.new.desk) c.in-Ok-true.field-0-test c.in-Ok-true.ensures in
     taken_in l c.next-in-loop.new.slot c.next-in-loop.new.desk c.loop.life took c.loop.invariant.free
 
 pub returns-in_err-next-clause-goes : goal.returns-in_err-next-clause-goes
 returns-in_err-next-clause-goes g c =
     let l = c.loop.self in
-    let took = subst (λ b. NextFrom c.args.domain.now l.queue.0 (Ok b) l.served.slot c.next-in-loop.new.slot l.desk c.next-in-loop.new.desk) c.in-Ok-true.field-0-test c.in-Ok-true.ensures in
+    let took = subst (λ b. NextFrom c.args.monitor.now.domain.now l.queue.0 (Ok b) l.served.slot c.next-in-loop.new.slot l.desk c.next-in-loop.new.desk) c.in-Ok-true.field-0-test c.in-Ok-true.ensures in
     let taken = at_desk l c.next-in-loop.new.slot c.next-in-loop.new.desk in
     goes_trans c.args.self.now taken c.exchange.new.self (goes_trans c.args.self.now l taken c.loop.invariant.goes (goes_by l taken (Take took.t ∷ []) took.serves.steps took.serves.server refl refl)) c.in_err-next.ensures.goes
 
 pub loop-preserved : goal.loop-preserved
 loop-preserved g c =
     let l = c.loop.self in
-    let took = subst (λ b. NextFrom c.args.domain.now l.queue.0 (Ok b) l.served.slot c.next-in-loop.new.slot l.desk c.next-in-loop.new.desk) c.in-Ok-true.field-0-test c.in-Ok-true.ensures in
+    let took = subst (λ b. NextFrom c.args.monitor.now.domain.now l.queue.0 (Ok b) l.served.slot c.next-in-loop.new.slot l.desk c.next-in-loop.new.desk) c.in-Ok-true.field-0-test c.in-Ok-true.ensures in
     let taken = at_desk l c.next-in-loop.new.slot c.next-in-loop.new.desk in
     record {
       goes = goes_trans c.args.self.now taken c.exchange.new.self (goes_trans c.args.self.now l taken c.loop.invariant.goes (goes_by l taken (Take took.t ∷ []) took.serves.steps took.serves.server refl refl)) c.in_ok-next.ensures.goes;
-      free = subst (λ e. ExchangedAs c.args.domain.now g.T.Starter.shows e c.exchange.new.self) c.in-Going.is c.in_ok-next.ensures.exchanged;
+      free = subst (λ e. ExchangedAs c.args.monitor.now.domain.now g.T.Starter.shows e c.exchange.new.self) c.in-Going.is c.in_ok-next.ensures.exchanged;
     }
 
 pub returns-in-Over-clause-goes : goal.returns-in-Over-clause-goes
 returns-in-Over-clause-goes g c =
     let l = c.loop.self in
-    let took = subst (λ b. NextFrom c.args.domain.now l.queue.0 (Ok b) l.served.slot c.next-in-loop.new.slot l.desk c.next-in-loop.new.desk) c.in-Ok-true.field-0-test c.in-Ok-true.ensures in
+    let took = subst (λ b. NextFrom c.args.monitor.now.domain.now l.queue.0 (Ok b) l.served.slot c.next-in-loop.new.slot l.desk c.next-in-loop.new.desk) c.in-Ok-true.field-0-test c.in-Ok-true.ensures in
     let taken = at_desk l c.next-in-loop.new.slot c.next-in-loop.new.desk in
     goes_trans c.args.self.now taken c.exchange.new.self (goes_trans c.args.self.now l taken c.loop.invariant.goes (goes_by l taken (Take took.t ∷ []) took.serves.steps took.serves.server refl refl)) c.in_ok-next.ensures.goes

@@ -7,18 +7,18 @@ use Rattle.xa_stamp.specs.declared.home.Stamped.{Stamped}
 use Rattle.xa_stamp.specs.Home.{last_stamp}
 use Rattle.xa_stamp.proofs.Stamps.{last_stamp-push}
 use Rattle.xa_worker.specs.Crew.{no_stamp, stands_at}
-use Rattle.xa_worker.specs.Work.{Standing, IsWorkOf, IsNext}
+use Rattle.xa_worker.specs.Work.{WorkState, IsWorkOf, IsNext}
 use Rattle.xa_worker.specs.Kept.{standing_of}
 use Rattle.xa_worker.proofs.Noting.{sound-noted, here-more, on_ok}
 use Rattle.xa_worker.proofs.work.Work.note_anew.Goals as goal
 
 pub invariant_of-self-in-Ok : goal.invariant_of-self-in-Ok
 invariant_of-self-in-Ok c =
-    let w : Standing = standing_of c.self.inside in
+    let w : WorkState = standing_of c.self.inside in
     let i = c.self.invariant in
     let x : Stamped = record { stamp = c.in-Ok.stamp; event = c.args.event } in
     let own : c.add.new.self ≡ w.own ++ x ∷ [] = c.add.ensures ∙ ap (λ (e : Event). w.own ++ record { stamp = c.in-Ok.stamp; event = e } ∷ []) c.of-snapshot.ensures in
-    let next : IsNext w c.args.event = subst (λ (s : Standing). IsNext s c.args.event) (sym c.self.view_is) c.requires.next in
+    let next : IsNext w c.args.event = subst (λ (s : WorkState). IsNext s c.args.event) (sym c.self.view_is) c.requires.next in
     let stamp = c.in-Ok.ensures.stamp in
     let reserved = on_ok c.reserve.result (sym c.is_err.ensures.value ∙ c.if-is_err.false) c.reserve.ensures.room in
     let higher : w.stamp.0 < x.stamp.0 = omega (arith, stamp) in
@@ -31,6 +31,6 @@ invariant_of-self-in-Ok c =
       reached = omega (arith);
       bound = stamp.1;
       home_latest = omega (arith, home_last);
-      here = c.in-Ok.ensures.entries ∙ ap (λ l. l ++ x ∷ []) (c.reserve.ensures.entries ∙ i.here) ∙ here-more w.setup w.clients w.id.0 w.own x (subst (λ (s : Standing). home_of s.setup s.clients x.event ≡ CallerHome s.id.0) (sym c.self.view_is) c.requires.home) ∙ ap (filter (stands_at w.setup w.clients (CallerHome w.id.0))) (sym own);
+      here = c.in-Ok.ensures.entries ∙ ap (λ l. l ++ x ∷ []) (c.reserve.ensures.entries ∙ i.here) ∙ here-more w.setup w.clients w.id.0 w.own x (subst (λ (s : WorkState). home_of s.setup s.clients x.event ≡ CallerHome s.id.0) (sym c.self.view_is) c.requires.home) ∙ ap (filter (stands_at w.setup w.clients (CallerHome w.id.0))) (sym own);
       room = omega (arith, reserved, c.note.ensures.room);
     }

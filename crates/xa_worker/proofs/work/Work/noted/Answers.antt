@@ -5,20 +5,20 @@ use Rattle.xa_stamp.specs.declared.home.Stamped.{Stamped}
 use Rattle.xa_stamp.specs.Home.{last_stamp}
 use Rattle.xa_stamp.proofs.Stamps.{last_stamp-push}
 use Rattle.xa_worker.specs.Crew.{no_stamp, stands_at}
-use Rattle.xa_worker.specs.Work.{Standing, IsWorkOf, IsNext}
+use Rattle.xa_worker.specs.Work.{WorkState, IsWorkOf, IsNext}
 use Rattle.xa_worker.specs.Kept.{standing_of}
 use Rattle.xa_worker.proofs.Noting.{sound-noted, here-same}
 use Rattle.xa_worker.proofs.work.Work.noted.Goals as goal
 
 pub invariant_of-self : goal.invariant_of-self
 invariant_of-self c =
-    let w : Standing = standing_of c.self.inside in
+    let w : WorkState = standing_of c.self.inside in
     let i = c.self.invariant in
     let x : Stamped = record { stamp = c.args.stamp; event = c.args.event.value } in
     let own : c.add.new.self ≡ w.own ++ x ∷ [] = c.add.ensures in
-    let next : IsNext w x.event = subst (λ (s : Standing). IsNext s x.event) (sym c.self.view_is) c.requires.next in
-    let higher : w.stamp.0 < x.stamp.0 = subst (λ (s : Standing). s.stamp.0 < x.stamp.0) (sym c.self.view_is) c.requires.later in
-    let off = subst (λ (s : Standing). stands_at s.setup s.clients (CallerHome s.id.0) x ≡ false) (sym c.self.view_is) c.requires.home in
+    let next : IsNext w x.event = subst (λ (s : WorkState). IsNext s x.event) (sym c.self.view_is) c.requires.next in
+    let higher : w.stamp.0 < x.stamp.0 = subst (λ (s : WorkState). s.stamp.0 < x.stamp.0) (sym c.self.view_is) c.requires.later in
+    let off = subst (λ (s : WorkState). stands_at s.setup s.clients (CallerHome s.id.0) x ≡ false) (sym c.self.view_is) c.requires.home in
     let last : last_stamp no_stamp c.add.new.self ≡ x.stamp.0 = ap (last_stamp no_stamp) own ∙ last_stamp-push no_stamp w.own x in
     record {
       sound = subst (IsWorkOf w.setup w.clients w.id.0) (sym {A = List Stamped} own) (sound-noted w x i.sound i.some (omega (arith, i.latest, i.reached, higher)) c.requires.bound next);
