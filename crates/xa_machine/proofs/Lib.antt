@@ -1,0 +1,12 @@
+pub mod Rows
+pub mod Boards
+pub mod Tells
+pub mod Scans
+pub mod Noting
+pub mod Logged
+pub mod Reading
+pub mod Placing
+pub mod First
+pub mod Running
+pub mod Talks
+pub mod Settled

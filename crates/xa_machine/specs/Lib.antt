@@ -1,0 +1,11 @@
+pub mod Tables
+pub mod Here
+pub mod Shown
+pub mod Versions
+pub mod Holds
+pub mod Whole
+pub mod Reads
+pub mod Kept
+pub mod Parts
+pub mod Ends
+pub mod Runs
