@@ -3,6 +3,7 @@ use Rattle.std.proofs.Common.{◌≡◌, ℕ, ◌^◌, ◌<◌, true, List, [], 
 use Rattle.std.specs.Prelude.{IfOk, IfErr}
 use Rattle.std.specs.List.{list_all}
 use Rattle.xa_types.specs.Name.{IsName}
+use Rattle.std.proofs.lemmas.Option.{same_Some}
 use Rattle.xa_events.specs.declared.event.Event.{Event}
 use Rattle.xa_events.specs.declared.event.Event.TheVariants as events
 use Rattle.xa_lines.specs.Line.{event_words, joined, line_of, IsEvent}
@@ -137,3 +138,7 @@ pub line_refused : (line : List ℕ) (r : Answer) → Makes (λ (event : Event).
 line_refused line (Ok event) made = tt
 line_refused line (Err refusals.NoEvent) made = λ why event fits same. cc (sym made ∙ ap (λ (xs : List ℕ). event_of (split xs)) (sym same) ∙ line_again event fits)
 line_refused line (Err refusals.NoMemory) made = λ why. absurd cc
+
+-- events with the same line are the same
+pub one_event : (event other : Event) → IsEvent event → IsEvent other → line_of event ≡ line_of other → event ≡ other
+one_event event other x y same = same_Some event other (sym (line_again event x) ∙ ap (λ (xs : List ℕ). event_of (split xs)) same ∙ line_again other y)

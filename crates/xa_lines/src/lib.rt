@@ -2,12 +2,14 @@
 #![tactic(auto)]
 
 mod fields;
+mod laws;
 mod reading;
 mod refusal;
 mod spelling;
 mod words;
 mod writing;
 
+pub use laws::one_reading;
 pub use reading::read_event;
 pub use refusal::EventRefused;
 pub use writing::{event, put_event};
