@@ -1,0 +1,7 @@
+use Rattle.std.proofs.Common.{◌≡◌, ◌++◌, drop}
+use Rattle.std.specs.List.{flat_map}
+use Rattle.xa_audit.specs.Record.{line}
+use Rattle.xa_audit.proofs.writing.put_names.Given as goal
+
+abbrev pub invariant-loop-name : goal.invariant-loop-name
+invariant-loop-name l = l.out.items ++ flat_map line (drop l.name-index l.names) ≡ l.fn.out.items ++ flat_map line l.names
