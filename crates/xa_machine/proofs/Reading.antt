@@ -22,7 +22,7 @@ use Rattle.xa_machine.specs.declared.caller.CallerRow.{CallerRow}
 use Rattle.xa_machine.specs.declared.tables.BoardChange.{BoardChange}
 use Rattle.xa_machine.specs.Tables.{last_by, ServerShows, QueueShows, CallerShows}
 use Rattle.xa_machine.specs.Shown.{change_of}
-use Rattle.xa_machine.specs.Here.{mode_in}
+use Rattle.xa_machine.specs.Here.{mode_in, mode_at}
 use Rattle.xa_machine.specs.Reads.{last_as, ServerReads, QueueReads, CallerReads}
 
 last_is : (o : Option Event) → last_by o ≡ last_as (outcome_in o)
@@ -84,6 +84,12 @@ pub priority_more : (request : RequestId) (e : Event) (past : List Event) (n : �
 unfolding priority_at
 priority_more request e past n h = made_of (is_entry_of request e) e (latest (is_entry_of request) past) n h
 
+pub priority_stops : (request : RequestId) (e : Event) (past : List Event) → is_entry_of request e ≡ true → priority_at (e ∷ past) request ≡ priority_in (Some e)
+priority_stops request e past h = sym (priority_more request e past (priority_at past request) refl) ∙ ap (λ b. cond b (priority_in (Some e)) (priority_at past request)) h
+
+pub priority_skips : (request : RequestId) (e : Event) (past : List Event) → is_entry_of request e ≡ false → priority_at (e ∷ past) request ≡ priority_at past request
+priority_skips request e past h = sym (priority_more request e past (priority_at past request) refl) ∙ ap (λ b. cond b (priority_in (Some e)) (priority_at past request)) h
+
 -- ---- the mode of a request
 
 pub mode_none : (request : RequestId) → None ≡ option_map (λ (sent : SentAs). sent.mode) (sent_as request [])
@@ -107,6 +113,12 @@ unfolding sent_as
 mode_more request (Accept a) past m h = accept_mode (same_request a.request request) _ (sent_as request past) m h
 mode_more request (Forward f) past m h = forward_mode (same_request f.request request) _ (λ s. refl) (sent_as request past) m h
 mode_more request _ past m h = h
+
+pub mode_stops : (request : RequestId) (e : Event) (past : List Event) → is_accept_of request e ≡ true → mode_at request (e ∷ past) ≡ mode_in e
+mode_stops request e past h = sym (mode_more request e past (mode_at request past) refl) ∙ ap (λ b. cond b (mode_in e) (mode_at request past)) h
+
+pub mode_skips : (request : RequestId) (e : Event) (past : List Event) → is_accept_of request e ≡ false → mode_at request (e ∷ past) ≡ mode_at request past
+mode_skips request e past h = sym (mode_more request e past (mode_at request past) refl) ∙ ap (λ b. cond b (mode_in e) (mode_at request past)) h
 
 -- ---- the priority that a service has of its own
 

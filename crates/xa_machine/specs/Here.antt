@@ -1,9 +1,10 @@
 -- What an event of a queue changes there.
-use Rattle.std.specs.Prelude.{ℕ, ◌-◌, nat_lt, Bool, true, false, Option, Some, None}
+use Rattle.std.specs.Prelude.{ℕ, ◌-◌, nat_lt, Bool, true, false, List, Option, Some, None, option_map}
 use Rattle.xa_types.specs.declared.call.Mode.{Mode}
 use Rattle.xa_types.specs.declared.ids.RequestId.{RequestId}
 use Rattle.xa_events.specs.declared.event.Event.{Event}
 use Rattle.xa_events.specs.declared.event.Event.TheVariants.{Accept, Forward, Take, Sweep, Down, Close}
+use Rattle.xa_events.specs.Request.{SentAs, sent_as}
 
 abbrev pub enters_here : Event → Option RequestId
 enters_here (Accept a) = Some a.request
@@ -30,6 +31,10 @@ is_closed_here _ = false
 abbrev pub mode_in : Event → Option Mode
 mode_in (Accept a) = Some a.mode
 mode_in _ = None
+
+-- the mode in which the request was accepted
+abbrev pub mode_at : RequestId → List Event → Option Mode
+mode_at request past = option_map (λ (sent : SentAs). sent.mode) (sent_as request past)
 
 -- the start lies within GRACE
 abbrev pub is_recent : ℕ → ℕ → ℕ → Bool

@@ -8,7 +8,7 @@ ghost use Rattle.xa_events.specs.Answers.{IsAnswerTo, has_kind};
 ghost use Rattle.xa_events.specs.Request.{settlement_in, WasSettled};
 ghost use Rattle.xa_events.specs.Request.Settlement.{EndedBy, SweptAway};
 
-use crate::words::{either, same_request};
+use crate::words::same_request;
 use xa_events::{Event, Outcome};
 use xa_types::{Answer, Data, Fault, Name, RequestId};
 
@@ -110,13 +110,15 @@ fn settles_so(event: &Event, request: RequestId, answer: &Answer) -> bool
     }
 }
 
-/// Whether one of the events settled the request so that the answer tells of it.
+/// Whether one of the events settled the request so that the answer tells of it: the newest is looked at first, since a
+/// request is answered soon after it was settled.
 pub fn was_settled(events: &[Event], request: RequestId, answer: &Answer) -> bool
     ensures { Decides result (WasSettled request (IsAnswerTo answer.now) (reverse events.now)) }
 {
-    let mut found = false;
-    for event in events {
-        found = either(settles_so(event, request, answer), found);
+    for i in (0..events.len()).rev() {
+        if settles_so(&events[i], request, answer) {
+            return true;
+        }
     }
-    found
+    false
 }

@@ -1,5 +1,5 @@
 // Whether a take gives the request that is next.
-ghost use Rattle.std.specs.Prelude.{◌≡◌, nat_le, reverse, Some};
+ghost use Rattle.std.specs.Prelude.{◌≡◌, ℕ, nat_le, reverse, Some};
 ghost use Rattle.std.specs.Bool.{Decides};
 ghost use Rattle.std.specs.List.{list_all};
 ghost use Rattle.xa_events.specs.Queue.{waiting};
@@ -8,7 +8,7 @@ ghost use Rattle.xa_events.specs.Request.{priority_at, is_entry_of, priority_in}
 
 use crate::machine::Machine;
 use crate::setups::queue_of;
-use crate::words::{pick, same_request};
+use crate::words::same_request;
 use xa_events::Event;
 use xa_types::RequestId;
 
@@ -32,34 +32,36 @@ fn priority_in(event: &Event) -> u8
     }
 }
 
-/// The priority with which the request waits.
+/// The priority with which the request waits: the newest event is looked at first.
 fn priority_at(events: &[Event], request: RequestId) -> u8
     ensures { result ≡ priority_at (reverse events.now) request }
 {
-    let mut priority = 0;
-    for event in events {
-        priority = pick(is_entry_of(request, event), priority_in(event), priority);
-    }
-    priority
-}
-
-// Whether no other has a greater priority.
-fn is_highest(events: &[Event], waiting: &[RequestId], priority: u8) -> bool
-    ensures { result ≡ list_all (λ other. nat_le (priority_at (reverse events.now) other) priority) waiting.now }
-{
-    for other in waiting {
-        if priority_at(events, *other) > priority {
-            return false;
+    for i in (0..events.len()).rev() {
+        let event = &events[i];
+        if is_entry_of(request, event) {
+            return priority_in(event);
         }
     }
-    true
+    0
+}
+
+// The greatest priority of those that wait.
+fn highest(events: &[Event], waiting: &[RequestId]) -> u8
+    ensures { (priority : ℕ) → list_all (λ other. nat_le (priority_at (reverse events.now) other) priority) waiting.now ≡ nat_le result priority }
+{
+    let mut highest = 0;
+    for request in waiting {
+        highest = priority_at(events, *request).max(highest);
+    }
+    highest
 }
 
 fn first_of_highest(events: &[Event], waiting: &[RequestId]) -> Option<RequestId>
     ensures { result ≡ first_of_highest (priority_at (reverse events.now)) waiting.now }
 {
+    let highest = highest(events, waiting);
     for request in waiting {
-        if is_highest(events, waiting, priority_at(events, *request)) {
+        if highest <= priority_at(events, *request) {
             return Some(*request);
         }
     }

@@ -19,7 +19,7 @@ use crate::ending::same_name;
 use crate::machine::Machine;
 use crate::refusing::descriptor_limit;
 use crate::standing::row_of;
-use crate::words::{is_none, pick, same_request};
+use crate::words::{is_none, same_request};
 use xa_events::{Accepted, Event, Forwarded};
 use xa_route::{admits, priority, row_for};
 use xa_types::{CallerId, Data, Mode, Name, QueueId, RequestId, Row, Setup};
@@ -90,15 +90,17 @@ fn mode_in(event: &Event) -> Option<Mode>
     }
 }
 
-/// The mode in which the request was accepted.
+/// The mode in which the request was accepted: the newest event is looked at first.
 pub fn mode_of(events: &[Event], request: RequestId) -> Option<Mode>
     ensures { result ≡ option_map (λ sent. sent.mode) (sent_as request (reverse events.now)) }
 {
-    let mut mode = None;
-    for event in events {
-        mode = pick(is_accept_of(request, event), mode_in(event), mode);
+    for i in (0..events.len()).rev() {
+        let event = &events[i];
+        if is_accept_of(request, event) {
+            return mode_in(event);
+        }
     }
-    mode
+    None
 }
 
 fn is_forward_of(request: RequestId, event: &Event) -> bool

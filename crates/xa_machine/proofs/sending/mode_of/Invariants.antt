@@ -1,6 +1,6 @@
-use Rattle.std.proofs.Common.{◌≡◌, take, reverse, option_map}
-use Rattle.xa_events.specs.Request.{SentAs, sent_as}
+use Rattle.std.proofs.Common.{◌≡◌, take, reverse}
+use Rattle.xa_machine.specs.Here.{mode_at}
 use Rattle.xa_machine.proofs.sending.mode_of.Given as goal
 
-abbrev pub invariant-loop-event : goal.invariant-loop-event
-invariant-loop-event l = l.mode ≡ option_map (λ (sent : SentAs). sent.mode) (sent_as l.request (reverse (take l.event-index l.events)))
+abbrev pub invariant-loop-i : goal.invariant-loop-i
+invariant-loop-i l = mode_at l.request (reverse l.events) ≡ mode_at l.request (reverse (take l.i l.events))
