@@ -1,7 +1,7 @@
 -- Every request is settled where as many were settled as accepted.
 use Rattle.std.proofs.Common.{◌≡◌, ℕ, suc, ◌+◌, ◌<◌, ◌≤◌, Bool, true, false, cond, List, [], ◌∷◌, length, reverse, Option, Some, None, inl, inr, refl, sym, ◌∙◌, ap, subst, arith, add-one}
 use Rattle.std.specs.List.{filter_map}
-use Rattle.std.proofs.lemmas.Bool.{cases_Bool, or_right}
+use Rattle.std.proofs.lemmas.Bool.{cases_Bool, or_left, or_right}
 use Rattle.std.proofs.lemmas.List.{reverse-append}
 use Rattle.xa_types.specs.declared.setup.Setup.{Setup}
 use Rattle.xa_types.specs.declared.ids.RequestId.{RequestId}
@@ -10,7 +10,7 @@ use Rattle.xa_events.specs.declared.event.Event.TheVariants.{Accept, End, Sweep}
 use Rattle.xa_events.specs.State.{opening}
 use Rattle.xa_events.specs.Words.{count, same_request}
 use Rattle.xa_events.specs.Run.{Run}
-use Rattle.xa_events.specs.Request.{is_accept_of, is_settled_by}
+use Rattle.xa_events.specs.Request.{is_accept_of, is_forward_of, is_settled_by}
 use Rattle.xa_events.specs.Laws.{LawOfEnds, moves_on}
 use Rattle.xa_events.proofs.WordsLemmas.{same_request_is, same_request_of, count_yes, count_no, count_grows}
 use Rattle.xa_machine.specs.Kept.{after, Reached}
@@ -164,6 +164,27 @@ settled_then past all =
     let some = many_settled past in
     let rest = many_accepted past in
     omega (arith, up, down, some, rest)
+
+-- ---- no request is forwarded before it was accepted
+
+forwarded_after : (r : RequestId) (past : List Event) → LawOfEnds past → count (is_accept_of r) past ≡ 0 → count (is_forward_of r) past ≡ 0
+forwarded_after r [] law none = refl
+forwarded_after r (e ∷ past) law none = elim (cases_Bool (is_forward_of r e)) [
+  | inl forwards ↦
+      let known = law.0.known r (or_right _ _ (or_left _ _ forwards)) in
+      let grows = count_grows (is_accept_of r) e past in
+      absurd (omega (arith, known, grows, none))
+  | inr other ↦
+      let grows = count_grows (is_accept_of r) e past in
+      count_no (is_forward_of r) e past other ∙ forwarded_after r past law.1 (omega (arith, grows, none))
+]
+
+accepts_alone : (r : RequestId) (e : Event) → is_accept_of r e ≡ true → is_forward_of r e ≡ false
+accepts_alone r (Accept a) h = refl
+accepts_alone r _ h = absurd (cc h)
+
+pub none_before : (r : RequestId) (e : Event) (past : List Event) → LawOfEnds (e ∷ past) → is_accept_of r e ≡ true → count (is_forward_of r) (e ∷ past) ≡ 0
+none_before r e past law accepts_it = count_no (is_forward_of r) e past (accepts_alone r e accepts_it) ∙ forwarded_after r past law.1 (law.0.new r accepts_it)
 
 -- ---- what was reached is a run
 

@@ -9,6 +9,7 @@ ghost use Rattle.xa_events.specs.declared.event.Event.TheVariants.{Accept, Forwa
 ghost use Rattle.xa_events.specs.State.{caller_of};
 ghost use Rattle.xa_events.specs.Words.{count};
 ghost use Rattle.xa_events.specs.Caller.{least_version, is_conversational, accepted, next_priority};
+ghost use Rattle.xa_events.specs.Laws.{LawOfEnds};
 ghost use Rattle.xa_events.specs.Request.{is_accept_of, is_forward_of, SentAs, sent_as};
 ghost use Rattle.xa_events.specs.Cases.{Case, HasRoom, asked_priority, priority_by, AcceptWorker, AcceptBefore, ForwardWorker, ForwardBefore, RowAdmits, RowStands};
 ghost use Rattle.xa_machine.specs.Here.{mode_in};
@@ -16,6 +17,7 @@ ghost use Rattle.xa_machine.specs.Here.{mode_in};
 use crate::admits::is_busy_with;
 use crate::called::is_conversational;
 use crate::ending::same_name;
+use crate::laws::runs_are_lawful;
 use crate::machine::Machine;
 use crate::refusing::descriptor_limit;
 use crate::standing::row_of;
@@ -112,12 +114,16 @@ fn is_forward_of(request: RequestId, event: &Event) -> bool
     }
 }
 
-// How often the request was forwarded.
+// How often the request was forwarded: the newest event is looked at first, up to the one that accepted it.
 fn forwards_of(events: &[Event], request: RequestId) -> usize
-    ensures { result ≡ count (is_forward_of request) (reverse events.now) }
+    ensures { LawOfEnds (reverse events.now) → result ≡ count (is_forward_of request) (reverse events.now) }
 {
     let mut n = 0;
-    for event in events {
+    for i in (0..events.len()).rev() {
+        let event = &events[i];
+        if is_accept_of(request, event) {
+            return n;
+        }
         if is_forward_of(request, event) {
             n += 1;
         }
@@ -252,10 +258,17 @@ impl Machine {
         is_plain(mode_of(&self.events, request))
     }
 
+    fn forwards(&self, request: RequestId) -> usize
+        ensures { result ≡ count (is_forward_of request) self.now.past }
+    {
+        runs_are_lawful();
+        forwards_of(&self.events, request)
+    }
+
     fn is_next_hop(&self, f: &Forwarded) -> bool
         ensures { Decides result (f.now.hop ≡ count (is_forward_of f.now.request) self.now.past + 1) }
     {
-        0 < f.hop && usize::from(f.hop - 1) == forwards_of(&self.events, f.request)
+        0 < f.hop && usize::from(f.hop - 1) == self.forwards(f.request)
     }
 
     fn admits_forward_before(&self, f: &Forwarded) -> bool

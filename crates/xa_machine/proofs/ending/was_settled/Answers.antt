@@ -1,4 +1,4 @@
-use Rattle.std.proofs.Common.{◌≡◌, ◌-◌, ◌∷◌, ◌∙◌, Bool, true, false, List, inl, inr, refl, sym, ap, subst, take, reverse}
+use Rattle.std.proofs.Common.{List, inl, inr, refl, sym, subst}
 use Rattle.xa_events.specs.declared.event.Event.{Event}
 use Rattle.xa_events.specs.Answers.{IsAnswerTo}
 use Rattle.xa_events.specs.Request.{WasSettled}

@@ -1,6 +1,6 @@
-use Rattle.std.proofs.Common.{◌≡◌, ◌-◌, ◌∙◌, cond, refl, sym, ap, take, reverse}
+use Rattle.std.proofs.Common.{◌-◌, ◌∙◌, refl, sym, ap, take, reverse}
 use Rattle.std.proofs.Math.Seq.{take-length}
-use Rattle.xa_events.specs.Request.{priority_at, priority_in}
+use Rattle.xa_events.specs.Request.{priority_at}
 use Rattle.xa_machine.proofs.Scans.{newest_first, none_left}
 use Rattle.xa_machine.proofs.Reading.{priority_none, priority_stops, priority_skips}
 use Rattle.xa_machine.proofs.order.priority_at.Goals as goal

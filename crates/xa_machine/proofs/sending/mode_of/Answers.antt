@@ -1,4 +1,4 @@
-use Rattle.std.proofs.Common.{◌≡◌, ◌-◌, ◌∙◌, refl, sym, ap, take, reverse}
+use Rattle.std.proofs.Common.{◌-◌, ◌∙◌, refl, sym, ap, take, reverse}
 use Rattle.std.proofs.Math.Seq.{take-length}
 use Rattle.xa_machine.specs.Here.{mode_at}
 use Rattle.xa_machine.proofs.Scans.{newest_first, none_left}
