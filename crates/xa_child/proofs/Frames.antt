@@ -1,5 +1,7 @@
 -- Lists of a child's frames, and their spellings.
-use Rattle.std.proofs.Common.{◌≡◌, ℕ, ◌+◌, ◌<◌, ◌^◌, ◌&&◌, ◌==◌, Bool, true, false, if◌then◌else◌, pos, List, [], ◌∷◌, ◌++◌, append_assoc, append-nil, length, take, get_or, add-one, Option, Some, None, codes, int_lt, ◌||◌, ◌≤◌, length-append, length-take, length-drop, refl, sym, ◌∙◌, ap, subst, arith, rules}
+use Rattle.std.specs.Prelude.{IfSome}
+use Rattle.xa_child.specs.declared.doing.Doing.TheVariants.{Waits}
+use Rattle.std.proofs.Common.{◌≡◌, ℕ, ◌+◌, ◌<◌, ◌^◌, ◌&&◌, ◌==◌, Bool, true, false, if◌then◌else◌, pos, List, [], ◌∷◌, ◌++◌, append_assoc, append-nil, length, take, get_or, add-one, Option, Some, None, codes, int_lt, ◌||◌, ◌≤◌, length-append, length-take, length-drop, refl, sym, ◌∙◌, ap, arith, rules}
 use Rattle.std.proofs.Math.Bool.{and_assoc}
 use Rattle.std.proofs.Math.Seq.{take-suc}
 use Rattle.std.proofs.lemmas.List.Quantifiers.{position-Some}
@@ -18,7 +20,12 @@ use Rattle.xa_frame.proofs.FrameLemmas.{all_spelled-push}
 use Rattle.xa_child.specs.declared.child.Said.{Said}
 use Rattle.xa_child.specs.Entry.{is_entry, account, amount, booked}
 use Rattle.xa_child.specs.Said.{frame_of, all_said}
-use Rattle.xa_child.specs.Child.{ChildState, admits, admits_all, after, after_all, answer, answer_body, counted, said, greeting, returned, transferred, accounted, passed, passed_text, space_in, no_entry, next, followed, is_die, is_exit}
+use Rattle.xa_child.specs.Texts.{space_in}
+use Rattle.xa_child.specs.Calling.{Deed, IsSmall, is_calling}
+use Rattle.xa_child.specs.Child.{ChildState, admits, admits_all, after, after_all, answer, answer_of, deed_by, exits, invoked, counted, said, greeting, returned, transferred, accounted, passed, passed_text, quit, is_fail, no_entry, next, followed, is_die, is_exit}
+use Rattle.xa_types.specs.declared.call.Mode.{Mode}
+use Rattle.xa_frame.specs.declared.frame.Body.TheVariants.{Reply as ReplyBody}
+use Rattle.xa_child.proofs.Callings.{relayed_body, changed_body, chats_body, told_body}
 
 pub admits_all-append : (s : ChildState) (xs ys : List Frame) → admits_all s (xs ++ ys) ≡ (admits_all s xs && admits_all (after_all s xs) ys)
 admits_all-append s [] ys = refl
@@ -39,13 +46,13 @@ said-append s [] ys all = refl
 said-append s (x ∷ xs) ys all =
     let h = both (admits s x) (admits_all (after s x) xs) all in
     let rest = said-append (after s x) xs ys h.1 in
-    rw h.0 (ap (λ z. answer x ++ z) rest ∙ sym (append_assoc (answer x) (said (after s x) xs) (said (after_all (after s x) xs) ys)))
+    rw h.0 (ap (λ z. answer s x ++ z) rest ∙ sym (append_assoc (answer s x) (said (after s x) xs) (said (after_all (after s x) xs) ys)))
 
 said_first : (b : Bool) (fs : List Frame) → b ≡ true → (if b then fs ++ [] else []) ≡ fs
 said_first b fs taken = rw taken (append-nil fs)
 
-pub said-one : (s : ChildState) (f : Frame) → admits s f ≡ true → said s (f ∷ []) ≡ answer f
-said-one s f taken = said_first (admits s f) (answer f) taken
+pub said-one : (s : ChildState) (f : Frame) → admits s f ≡ true → said s (f ∷ []) ≡ answer s f
+said-one s f taken = said_first (admits s f) (answer s f) taken
 
 no_entry_body : IsBody no_entry
 no_entry_body = search rules
@@ -88,24 +95,36 @@ passed_body (Octet octets) h = passed_text_body (space_in octets) octets (λ pla
 passed_body Absent h = search rules
 passed_body (Struct subtype octets) h = search rules
 
-returned_if : (echo len fail exit transfer acct pass : Bool) (payload : Data) → IsData payload → IsBody (if echo then Return Success (pos 0) payload else (if len then Return Success (pos (counted payload)) Absent else (if fail then Return Fail (pos 7) payload else (if exit then Return Exit (pos 1) Absent else (if transfer then transferred payload else (if acct then accounted payload else (if pass then passed payload else Return Fail (pos 99) Absent)))))))
-returned_if true len fail exit transfer acct pass payload h = search rules
-returned_if false true fail exit transfer acct pass payload h = search rules
-returned_if false false true exit transfer acct pass payload h = search rules
-returned_if false false false true transfer acct pass payload h = search rules
-returned_if false false false false true acct pass payload h = transferred_body payload h
-returned_if false false false false false true pass payload h = accounted_body payload h
-returned_if false false false false false false true payload h = passed_body payload h
-returned_if false false false false false false false payload h = search rules
+quit_body : (b : Bool) → IsBody (if b then Return Fail (pos 0) Absent else Return Success (pos 0) Absent)
+quit_body true = search rules
+quit_body false = search rules
+
+returned_if : (echo len fail exit transfer acct pass quits : Bool) (payload : Data) → IsData payload → IsBody (if echo then Return Success (pos 0) payload else (if len then Return Success (pos (counted payload)) Absent else (if fail then Return Fail (pos 7) payload else (if exit then Return Exit (pos 1) Absent else (if transfer then transferred payload else (if acct then accounted payload else (if pass then passed payload else (if quits then quit payload else Return Fail (pos 99) Absent))))))))
+returned_if true len fail exit transfer acct pass quits payload h = search rules
+returned_if false true fail exit transfer acct pass quits payload h = search rules
+returned_if false false true exit transfer acct pass quits payload h = search rules
+returned_if false false false true transfer acct pass quits payload h = search rules
+returned_if false false false false true acct pass quits payload h = transferred_body payload h
+returned_if false false false false false true pass quits payload h = accounted_body payload h
+returned_if false false false false false false true quits payload h = passed_body payload h
+returned_if false false false false false false false true payload h = quit_body (is_fail payload)
+returned_if false false false false false false false false payload h = search rules
 
 returned_body : (routine : List ℕ) (payload : Data) → IsData payload → IsBody (returned routine payload)
-returned_body routine payload h = returned_if (bytes_eq routine (codes "ECHO")) (bytes_eq routine (codes "LEN")) (bytes_eq routine (codes "FAIL")) (is_exit routine) (bytes_eq routine (codes "TRANSFER")) (bytes_eq routine (codes "ACCT")) (bytes_eq routine (codes "PASS")) payload h
+returned_body routine payload h = returned_if (bytes_eq routine (codes "ECHO")) (bytes_eq routine (codes "LEN")) (bytes_eq routine (codes "FAIL")) (is_exit routine) (bytes_eq routine (codes "TRANSFER")) (bytes_eq routine (codes "ACCT")) (bytes_eq routine (codes "PASS")) (bytes_eq routine (codes "QUIT")) payload h
+
+-- how a routine begins
+invoked_if : (relay change chat : Bool) (relays changes chats : Deed) (body : Body) → IsBody relays.says → IsBody changes.says → IsBody chats.says → IsBody body
+    → IsBody (if relay then relays else (if change then changes else (if chat then chats else record { says = body; doing = Waits }))).says
+invoked_if true change chat relays changes chats body r c h b = r
+invoked_if false true chat relays changes chats body r c h b = c
+invoked_if false false true relays changes chats body r c h b = h
+invoked_if false false false relays changes chats body r c h b = b
+
+invoked_body : (routine : List ℕ) (mode : Mode) (payload : Data) → IsData payload → IsBody (invoked routine mode payload).says
+invoked_body routine mode payload h = invoked_if (bytes_eq routine (codes "RELAY")) (bytes_eq routine (codes "ADV")) (bytes_eq routine (codes "CHAT")) _ _ _ _ (relayed_body payload h) (changed_body payload h) (chats_body mode payload h) (returned_body routine payload h)
 
 -- what is said to a frame that has a spelling has one
-served_spelling : (b : Bool) (fs : List Frame) → All HasSpelling fs → All HasSpelling (if b then [] else fs)
-served_spelling true fs h = All-nil HasSpelling
-served_spelling false fs h = h
-
 pub two_spellings : (f g : Frame) → HasSpelling f → HasSpelling g → All HasSpelling (f ∷ g ∷ [])
 two_spellings f g h k = All-cons HasSpelling f (g ∷ []) h (All-cons HasSpelling g [] k (All-nil HasSpelling))
 
@@ -116,18 +135,25 @@ followed_spelling : (f : Frame) → HasSpelling f → (last : Bool) → All HasS
 followed_spelling f h true = All-cons HasSpelling f [] h (All-nil HasSpelling)
 followed_spelling f h false = two_spellings f next h next_spelling
 
-answer_spelling : (tag : ℕ) (body : Body) → tag < 2 ^ 32 → IsBody body → All HasSpelling (answer_body tag body)
-answer_spelling tag (Invoke service routine mode payload) low h =
-    let first : HasSpelling (record { tag = tag; body = returned routine payload }) = record { tag = low; body = returned_body routine payload h.2 } in
-    served_spelling (is_die routine) _ (followed_spelling _ first (is_exit routine))
-answer_spelling tag body low h = All-nil HasSpelling
+deed_spelling : (tag : ℕ) (last : Bool) (deed : Option Deed) → tag < 2 ^ 32 → IfSome deed (λ d. IsBody d.says) → All HasSpelling (answer_of tag last deed)
+deed_spelling tag last None low h = All-nil HasSpelling
+deed_spelling tag last (Some deed) low h = followed_spelling (record { tag = tag; body = deed.says }) (record { tag = low; body = h }) (last || is_calling deed.doing)
 
-pub spelling-answer : (f : Frame) → HasSpelling f → All HasSpelling (answer f)
-spelling-answer f h = answer_spelling f.tag f.body h.tag h.body
+by_die : (die : Bool) (deed : Deed) → IsBody deed.says → IfSome (if die then None else Some deed) (λ (d : Deed). IsBody d.says)
+by_die true deed h = tt
+by_die false deed h = h
 
--- what is said to an INVOKE, and what follows it
-pub said_spelling : (said : Said) (f : Frame) → HasSpelling f → all_said (Some said) ≡ answer f → HasSpelling (frame_of said)
-said_spelling said f h is = All-head HasSpelling (frame_of said) (followed said.last) (subst (All HasSpelling) (sym is) (spelling-answer f h))
+deed_body : (s : ChildState) (body : Body) → IsSmall s.doing → IsBody body → IfSome (deed_by s.doing body) (λ (d : Deed). IsBody d.says)
+deed_body s (Invoke service routine mode payload) small h = by_die (is_die routine) (invoked routine mode payload) (invoked_body routine mode payload h.2)
+deed_body s (ReplyBody reply) small h = told_body s.doing reply small h
+deed_body s body small h = tt
+
+pub spelling-answer : (s : ChildState) (f : Frame) → IsSmall s.doing → HasSpelling f → All HasSpelling (answer s f)
+spelling-answer s f small h = deed_spelling f.tag (exits f.body) (deed_by s.doing f.body) h.tag (deed_body s f.body small h.body)
+
+-- what is said, and what follows it
+pub said_spelling : (said : Said) → All HasSpelling (all_said (Some said)) → HasSpelling (frame_of said)
+said_spelling said h = All-head HasSpelling (frame_of said) (followed said.last) h
 
 pub spelled-said : (due : List ℕ) (said : Said) → (due ++ spelled (frame_of said)) ++ all_spelled (followed said.last) ≡ due ++ all_spelled (all_said (Some said))
 spelled-said due said = append_assoc due (spelled (frame_of said)) (all_spelled (followed said.last))

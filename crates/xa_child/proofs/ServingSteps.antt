@@ -7,7 +7,7 @@ use Rattle.xa_frame.specs.Spelling.{spelled, all_spelled, HasSpelling}
 use Rattle.xa_frame.specs.Reader.{Took}
 use Rattle.xa_child.specs.declared.serving.Serving.{Serving}
 use Rattle.xa_child.specs.declared.serving.Halt.{Halt}
-use Rattle.xa_child.specs.Child.{admits, after, after_all, answer, said}
+use Rattle.xa_child.specs.Child.{ChildState, admits, after, after_all, answer, said}
 use Rattle.xa_child.specs.Work.{place_after}
 use Rattle.xa_child.specs.Serving.{HaltsAt, StepsTo, Answers, Takes, TakesUpTo}
 use Rattle.xa_frame.proofs.FrameLemmas.{all_spelled-append, all_spelled-push}
@@ -45,7 +45,7 @@ taken_more old mid new due due_now t step =
         admitted = admits_all-append s fs (f ∷ []) ∙ and_both _ _ t.takes.admitted yes;
         whole = t.takes.whole ∙ (ap (λ z. all_spelled fs ++ z) one.took.begins.whole ∙ (sym (append_assoc (all_spelled fs) (spelled f) new.reader.rest) ∙ ap (λ z. z ++ new.reader.rest) (sym push)));
         child = one.child ∙ (ap (λ z. after z f) t.takes.child ∙ sym (after_all-append s fs (f ∷ [])));
-        says = one.adds ∙ (ap (λ z. z ++ all_spelled (answer f)) t.takes.says ∙ (sym (all_spelled-append (said s fs) (answer f)) ∙ ap all_spelled (ap (λ z. said s fs ++ z) (sym (said-one (after_all s fs) f yes)) ∙ sym (said-append s fs (f ∷ []) t.takes.admitted))));
+        says = one.adds ∙ (ap (λ (c : ChildState). due ++ all_spelled (answer c f)) t.takes.child ∙ (ap (λ z. z ++ all_spelled (answer (after_all s fs) f)) t.takes.says ∙ (sym (all_spelled-append (said s fs) (answer (after_all s fs) f)) ∙ ap all_spelled (ap (λ z. said s fs ++ z) (sym (said-one (after_all s fs) f yes)) ∙ sym (said-append s fs (f ∷ []) t.takes.admitted)))));
       };
       place = omega (arith, t.place, one.took.place, size);
     }
@@ -72,7 +72,7 @@ answers_step old mid new f due due_now (Ok None) going took child same h = (
     took = subst (λ r. Took old.reader r f) (sym same) took;
     admitted = subst (λ s. admits s f ≡ true) child h.0;
     child = h.1 ∙ ap (λ s. after s f) child;
-    adds = h.2;
+    adds = h.2 ∙ ap (λ s. due ++ all_spelled (answer s f)) child;
   },
 )
 answers_step old mid new f due due_now (Ok (Some halt)) going took child same h =

@@ -1,36 +1,42 @@
 -- A server's program, the child: which frames it admits, and what it says to each of them.
 use Rattle.std.specs.Prelude.{ℕ, ◌+◌, ◌-◌, ◌%◌, ◌^◌, min, ◌==◌, ◌&&◌, ◌||◌, not, Bool, true, false, if◌then◌else◌, pos, int_lt, Option, Some, None, List, [], ◌∷◌, ◌++◌, length, take, drop, codes}
-use Rattle.std.specs.List.{position}
 use Rattle.std.specs.Str.{bytes_eq}
 use Rattle.xa_types.specs.declared.data.Data.{Data}
 use Rattle.xa_types.specs.declared.data.Data.TheVariants.{Absent, Octet, Struct}
 use Rattle.xa_types.specs.declared.call.Rval.TheVariants.{Success, Fail, Exit}
 use Rattle.xa_frame.specs.declared.frame.Frame.{Frame}
 use Rattle.xa_frame.specs.declared.frame.Body.{Body}
-use Rattle.xa_frame.specs.declared.frame.Body.TheVariants.{Ready, Next, Return, Forward, Invoke, Shutdown}
+use Rattle.xa_frame.specs.declared.frame.Body.TheVariants.{Ready, Next, Return, Forward, Invoke, Reply as ReplyBody, Shutdown}
+use Rattle.xa_types.specs.declared.call.Mode.{Mode}
+use Rattle.xa_child.specs.declared.doing.Doing.TheVariants.{Waits}
+use Rattle.xa_child.specs.Texts.{space_in}
+use Rattle.xa_child.specs.Calling.{Deed, Doing, done_by, relayed, changed, chats, told, may_tell, is_calling}
 use Rattle.xa_child.specs.Entry.{is_entry, account, amount, booked}
 
--- how many INVOKEs it took, modulo 2 ^ 32, and whether it has ended
+-- how many INVOKEs it took, modulo 2 ^ 32, what it waits for, and whether it has ended
 pub record ChildState : Type 0 where
   pub invocations : ℕ
+  pub doing : Doing
   pub ended : Bool
 
 -- the child as it begins
 abbrev pub begun : ChildState
-begun = record { invocations = 0; ended = false }
+begun = record { invocations = 0; doing = Waits; ended = false }
 
 -- the number of the next INVOKE
 abbrev pub following : ℕ → ℕ
 following invocations = (invocations + 1) % 2 ^ 32
 
-abbrev pub admits_body : ℕ → ℕ → Body → Bool
-admits_body invocations tag (Invoke service routine mode payload) = tag == following invocations
-admits_body invocations tag Shutdown = tag == 0
-admits_body invocations tag body = false
+abbrev pub admits_body : ℕ → Doing → ℕ → Body → Bool
+admits_body invocations doing tag (Invoke service routine mode payload) = not (is_calling doing) && (tag == following invocations)
+admits_body invocations doing tag Shutdown = not (is_calling doing) && (tag == 0)
+admits_body invocations doing tag (ReplyBody reply) = (tag == invocations) && may_tell doing reply
+admits_body invocations doing tag body = false
 
--- until it has ended it admits an INVOKE with the next number as its tag, and a SHUTDOWN with the tag 0
+-- until it has ended it admits, behind NEXT, an INVOKE with the next number as its tag and a SHUTDOWN with the tag 0; and behind a call a REPLY with the
+-- invocation's number that fits the call
 abbrev pub admits : ChildState → Frame → Bool
-admits s f = not s.ended && admits_body s.invocations f.tag f.body
+admits s f = not s.ended && admits_body s.invocations s.doing f.tag f.body
 
 -- how many octets the data has
 abbrev pub size : Data → ℕ
@@ -66,9 +72,13 @@ unfoldable pub accounted : Data → Body
 accounted (Struct subtype octets) = if is_entry subtype octets then accounted_entry subtype octets else no_entry
 accounted payload = no_entry
 
--- the place of a text's first space, if that is among its first 256 octets: a word has at most 255
-abbrev pub space_in : List ℕ → Option ℕ
-space_in octets = position (λ octet. octet == 0x20) (take 256 octets)
+abbrev pub is_fail : Data → Bool
+is_fail (Octet octets) = bytes_eq octets (codes "fail")
+is_fail payload = false
+
+-- QUIT returns at once, with TPFAIL to the text `fail`
+abbrev pub quit : Data → Body
+quit payload = if is_fail payload then Return Fail (pos 0) Absent else Return Success (pos 0) Absent
 
 abbrev pub passed_text : Option ℕ → List ℕ → Body
 passed_text None octets = Return Success (pos 0) (Octet octets)
@@ -94,7 +104,8 @@ returned routine payload =
     else (if bytes_eq routine (codes "TRANSFER") then transferred payload
     else (if bytes_eq routine (codes "ACCT") then accounted payload
     else (if bytes_eq routine (codes "PASS") then passed payload
-    else Return Fail (pos 99) Absent))))))
+    else (if bytes_eq routine (codes "QUIT") then quit payload
+    else Return Fail (pos 99) Absent)))))))
 
 -- the routine DIE, which returns nothing and ends the child
 abbrev pub is_die : List ℕ → Bool
@@ -104,31 +115,55 @@ is_die routine = bytes_eq routine (codes "DIE")
 abbrev pub next : Frame
 next = record { tag = 0; body = Next }
 
--- what follows the RETURN or FORWARD of a routine: NEXT, but for EXIT
+-- what follows what a routine says: NEXT, but for a call and for EXIT
 abbrev pub followed : Bool → List Frame
 followed true = []
 followed false = next ∷ []
 
--- to an INVOKE with that tag: the RETURN or FORWARD with it, and NEXT; EXIT says no NEXT, and DIE nothing
-abbrev pub served : ℕ → List ℕ → Data → List Frame
-served tag routine payload = if is_die routine then [] else (record { tag = tag; body = returned routine payload }) ∷ followed (is_exit routine)
+-- how the routine begins
+abbrev pub invoked : List ℕ → Mode → Data → Deed
+invoked routine mode payload =
+    if bytes_eq routine (codes "RELAY") then relayed payload
+    else (if bytes_eq routine (codes "ADV") then changed payload
+    else (if bytes_eq routine (codes "CHAT") then chats mode payload
+    else done_by (returned routine payload)))
 
-abbrev pub answer_body : ℕ → Body → List Frame
-answer_body tag (Invoke service routine mode payload) = served tag routine payload
-answer_body tag body = []
+-- what it does by a frame that it admits: to an INVOKE its routine begins, but DIE says nothing, and to a REPLY it goes on
+abbrev pub deed_by : Doing → Body → Option Deed
+deed_by doing (Invoke service routine mode payload) = if is_die routine then None else Some (invoked routine mode payload)
+deed_by doing (ReplyBody reply) = Some (told doing reply)
+deed_by doing body = None
+
+-- the frame ends the child with what is said to it
+abbrev pub exits : Body → Bool
+exits (Invoke service routine mode payload) = is_exit routine
+exits body = false
+
+-- what is said with that tag: what the routine says, and NEXT
+abbrev pub answer_of : ℕ → Bool → Option Deed → List Frame
+answer_of tag last None = []
+answer_of tag last (Some deed) = (record { tag = tag; body = deed.says }) ∷ followed (last || is_calling deed.doing)
 
 -- what it says to a frame that it admits
-abbrev pub answer : Frame → List Frame
-answer f = answer_body f.tag f.body
+abbrev pub answer : ChildState → Frame → List Frame
+answer s f = answer_of f.tag (exits f.body) (deed_by s.doing f.body)
 
-abbrev pub after_body : ChildState → Body → ChildState
-after_body s (Invoke service routine mode payload) = record { invocations = following s.invocations; ended = is_die routine || is_exit routine }
-after_body s Shutdown = record { invocations = s.invocations; ended = true }
-after_body s body = s
+abbrev pub doing_of : Option Deed → Doing
+doing_of None = Waits
+doing_of (Some deed) = deed.doing
+
+abbrev pub invocations_after : ℕ → Body → ℕ
+invocations_after n (Invoke service routine mode payload) = following n
+invocations_after n body = n
+
+abbrev pub ends : Body → Bool
+ends (Invoke service routine mode payload) = is_die routine || is_exit routine
+ends Shutdown = true
+ends body = false
 
 -- the child after a frame that it admits: SHUTDOWN, DIE and EXIT end it
 abbrev pub after : ChildState → Frame → ChildState
-after s f = after_body s f.body
+after s f = record { invocations = invocations_after s.invocations f.body; doing = doing_of (deed_by s.doing f.body); ended = ends f.body }
 
 -- it admits each of these frames, one after another
 abbrev pub admits_all : ChildState → List Frame → Bool
@@ -143,7 +178,7 @@ after_all s (f ∷ fs) = after_all (after s f) fs
 -- what it says to these frames, up to the first that it doesn't admit
 abbrev pub said : ChildState → List Frame → List Frame
 said s [] = []
-said s (f ∷ fs) = if admits s f then answer f ++ said (after s f) fs else []
+said s (f ∷ fs) = if admits s f then answer s f ++ said (after s f) fs else []
 
 -- what it begins with: READY with its server's name, and NEXT
 abbrev pub greeting : List ℕ → List Frame

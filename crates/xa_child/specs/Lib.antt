@@ -7,3 +7,5 @@ pub mod Serving
 pub mod Turns
 pub mod Work
 pub mod LocalYard
+pub mod Texts
+pub mod Calling

@@ -9,6 +9,8 @@ use Rattle.xa_frame.specs.declared.frame.Body.TheVariants.{Return}
 use Rattle.xa_child.specs.declared.routines.Outcome.{Outcome}
 use Rattle.xa_child.specs.declared.routines.Outcome.TheVariants.{Returned, Made}
 use Rattle.xa_child.specs.declared.child.Said.{Said}
+use Rattle.xa_child.specs.declared.calling.Deed.{Deed as Made_}
+use Rattle.xa_child.specs.Calling.{Deed}
 use Rattle.xa_child.specs.Child.{followed}
 
 -- the data of its request, or absent data
@@ -20,6 +22,10 @@ data_of (Some payload) = payload.now
 abbrev pub body_of : Outcome → Body
 body_of (Returned value code payload) = Return value code (data_of payload)
 body_of (Made body) = body
+
+-- what a routine says with its data where it is, and what it waits for
+abbrev pub deed_of : Made_ → Deed
+deed_of deed = record { says = body_of deed.says; doing = deed.doing }
 
 -- the frame
 abbrev pub frame_of : Said → Frame

@@ -22,10 +22,10 @@ pub record TakesOne (old new : Serving) (due due_now : List ℕ) (f : Frame) : T
   pub took : Took old.reader new.reader f
   pub admitted : admits old.child f ≡ true
   pub child : new.child ≡ after old.child f
-  pub adds : due_now ≡ due ++ all_spelled (answer f)
+  pub adds : due_now ≡ due ++ all_spelled (answer old.child f)
 
 abbrev pub Answers : ChildState → ChildState → List ℕ → List ℕ → ℕ → Frame → Option Halt → Type 0
-Answers s s_now due due_now place f None = (admits s f ≡ true) × (s_now ≡ after s f) × (due_now ≡ due ++ all_spelled (answer f))
+Answers s s_now due due_now place f None = (admits s f ≡ true) × (s_now ≡ after s f) × (due_now ≡ due ++ all_spelled (answer s f))
 Answers s s_now due due_now place f (Some halt) = (admits s f ≡ false) × (s_now ≡ s) × (due_now ≡ due) × (halt ≡ Bad place)
 
 abbrev pub StepsTo : Serving → Serving → List ℕ → List ℕ → Option Halt → Type 0

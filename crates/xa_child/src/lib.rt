@@ -2,7 +2,9 @@
 //! memory.
 #![tactic(auto)]
 
+mod calling;
 mod child;
+mod doing;
 mod local;
 mod routines;
 mod serving;

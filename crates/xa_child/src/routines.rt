@@ -2,7 +2,8 @@
 ghost use Rattle.std.specs.Prelude.{◌≡◌, ◌<◌, ◌++◌, codes, length, pos, IfOk, IfSome};
 ghost use Rattle.std.specs.Str.{bytes_eq};
 ghost use Rattle.xa_frame.specs.declared.frame.Body.TheVariants.{Return};
-ghost use Rattle.xa_child.specs.Child.{accounted, counted, is_die, is_exit, passed, returned, space_in, transferred};
+ghost use Rattle.xa_child.specs.Texts.{space_in};
+ghost use Rattle.xa_child.specs.Child.{accounted, counted, is_die, is_exit, is_fail, passed, quit, returned, transferred};
 ghost use Rattle.xa_child.specs.Entry.{booked, is_entry};
 ghost use Rattle.xa_child.specs.Said.{body_of, data_of};
 
@@ -41,7 +42,7 @@ pub enum Outcome<'a> {
     Made(Body),
 }
 
-fn is(routine: &Name, name: &[u8]) -> bool
+pub fn is(routine: &Name, name: &[u8]) -> bool
     ensures { result ≡ bytes_eq routine.now name.now }
 {
     routine.octets() == name
@@ -122,7 +123,7 @@ fn acct(alloc: Global, payload: &Data) -> Result<Outcome<'_>, NoMemory>
 }
 
 // Where the first space of a text stands, if it is among the first 256 octets.
-fn space_in(octets: &[u8]) -> Option<usize>
+pub fn space_in(octets: &[u8]) -> Option<usize>
     ensures place { result ≡ space_in octets.now }
     ensures within { IfSome result (λ place. place < length octets.now) }
 {
@@ -149,7 +150,25 @@ fn pass(alloc: Global, payload: &Data) -> Result<Outcome<'_>, NoMemory>
     Ok(Outcome::Made(Body::Forward(service, Data::Octet(rest))))
 }
 
-/// What a routine other than DIE says to its request's data.
+fn is_fail(payload: &Data) -> bool
+    ensures { result ≡ is_fail payload.now }
+{
+    match payload {
+        Data::Octet(octets) => octets.slice() == b"fail".as_slice(),
+        _ => false,
+    }
+}
+
+fn quit<'a>(payload: &Data) -> Outcome<'a>
+    ensures { body_of result ≡ quit payload.now }
+{
+    if is_fail(payload) {
+        return Outcome::Returned(Rval::Fail, 0, None);
+    }
+    Outcome::Returned(Rval::Success, 0, None)
+}
+
+/// What a routine other than DIE and those that make calls says to its request's data.
 pub fn said_by<'a>(
     alloc: Global,
     routine: &Name,
@@ -177,6 +196,9 @@ pub fn said_by<'a>(
     }
     if is(routine, b"PASS") {
         return pass(alloc, payload);
+    }
+    if is(routine, b"QUIT") {
+        return Ok(quit(payload));
     }
     Ok(Outcome::Returned(Rval::Fail, UNKNOWN, None))
 }

@@ -2,11 +2,11 @@
 ghost use Rattle.std.specs.Prelude.{◌≡◌, ◌<◌, ◌^◌, ◌++◌, IfOk, OnOk};
 ghost use Rattle.std.specs.List.{All};
 ghost use Rattle.xa_frame.specs.Spelling.{all_spelled, spelled, HasSpelling};
-ghost use Rattle.xa_child.specs.Child.{answer, followed};
-ghost use Rattle.xa_child.specs.Said.{frame_of};
+ghost use Rattle.xa_child.specs.Child.{followed};
+ghost use Rattle.xa_child.specs.Said.{frame_of, all_said};
 ghost use Rattle.xa_child.specs.Serving.{StepsTo, TakesUpTo, Answers};
 
-use crate::child::{Child, Said, next, said_to};
+use crate::child::{Child, Said, Turned, next};
 use crate::routines::Outcome;
 use std::alloc::Global;
 use xa_frame::{Frame, NextRefused, Reader, append, append_return};
@@ -73,12 +73,12 @@ fn spell_followed(last: bool, due: &mut Vec<u8>) -> Result<(), NoMemory>
     append(due, &next())
 }
 
-// Adds what is said to a frame that the program admits.
-fn spell_answer(alloc: Global, frame: &Frame, due: &mut Vec<u8>) -> Result<(), NoMemory>
-    requires { HasSpelling frame.now }
-    ensures { OnOk result (due.new.items ≡ due.old.items ++ all_spelled (answer frame.now)) }
+// Adds what is said to a frame.
+fn spell_all_said(said: Option<Said<'_>>, due: &mut Vec<u8>) -> Result<(), NoMemory>
+    requires { All HasSpelling (all_said said) }
+    ensures { OnOk result (due.new.items ≡ due.old.items ++ all_spelled (all_said said.entry)) }
 {
-    let Some(said) = said_to(alloc, frame)? else {
+    let Some(said) = said else {
         return Ok(());
     };
     let last = said.last;
@@ -131,8 +131,9 @@ impl Serving {
         if !self.child.admits(frame) {
             return Ok(Some(Halt::Bad(place)));
         }
-        spell_answer(self.alloc, frame, due)?;
-        self.child.note(frame);
+        let Turned { said, doing } = self.child.turn(self.alloc, frame)?;
+        spell_all_said(said, due)?;
+        self.child.note(frame, doing);
         Ok(None)
     }
 }

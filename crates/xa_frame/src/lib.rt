@@ -65,4 +65,6 @@ mod writing;
 pub use frame::{Body, Frame};
 pub use laws::{malformed_for_ever, one_frame};
 pub use reader::{NextRefused, Reader};
-pub use writing::{append, append_invoke, append_return, encode, kind_octet};
+pub use writing::{
+    append, append_answer, append_invoke, append_reply, append_return, encode, kind_octet,
+};

@@ -1,6 +1,6 @@
 //! Replies: what a service's call is told.
 
-ghost use Rattle.std.specs.Prelude.{◌≡◌, ◌≤◌, ◌++◌, ◌∷◌, [], length, OnOk, IfOk};
+ghost use Rattle.std.specs.Prelude.{◌≡◌, ◌≤◌, ◌+◌, ◌++◌, ◌∷◌, [], length, OnOk, IfOk};
 ghost use Rattle.xa_types.specs.declared.reply.Reply.TheVariants as replies;
 ghost use Rattle.xa_frame.specs.declared.frame.Body.TheVariants as bodies;
 ghost use Rattle.xa_frame.specs.Spelling.{signed, data_octets, answer_octets, reply_octets, IsData, IsAnswer, IsReply};
@@ -135,6 +135,15 @@ fn answer_len(answer: &Answer) -> usize
     }
 }
 
+/// How many octets the reply with an answer has.
+pub fn answered_len(answer: &Answer) -> usize
+    requires { IsAnswer answer.now }
+    ensures length { result ≡ 9 + length (answer_octets answer.now) }
+    ensures few { result ≤ 66_000 }
+{
+    9 + answer_len(answer)
+}
+
 /// How many octets the reply has.
 pub fn reply_len(reply: &Reply) -> usize
     requires { IsReply reply.now }
@@ -144,7 +153,7 @@ pub fn reply_len(reply: &Reply) -> usize
     match reply {
         Reply::Done => 1,
         Reply::Descriptor(_) | Reply::Now(_) => 9,
-        Reply::Answered(_, answer) => 9 + answer_len(answer),
+        Reply::Answered(_, answer) => answered_len(answer),
         Reply::Message(payload) => 1 + data_len(payload),
         Reply::Event(_, _, payload) => 6 + data_len(payload),
         Reply::Fault(_) => 2,
@@ -191,7 +200,8 @@ fn put_done(out: &mut Vec<u8>) -> Result<(), NoMemory>
     Ok(())
 }
 
-fn put_answered(out: &mut Vec<u8>, descriptor: u64, answer: &Answer) -> Result<(), NoMemory>
+/// Puts the reply with an answer at the end.
+pub fn put_answered(out: &mut Vec<u8>, descriptor: u64, answer: &Answer) -> Result<(), NoMemory>
     requires { IsAnswer answer.now }
     ensures { OnOk result (out.new.items ≡ out.old.items ++ reply_octets (replies.Answered descriptor answer.now)) }
 {

@@ -1,7 +1,8 @@
 ghost use Rattle.std.specs.Prelude.{◌≡◌, ◌≤◌, ◌+◌, ◌++◌, length, IfOk, OnOk};
 ghost use Rattle.xa_types.specs.declared.call.Mode.{Mode};
-ghost use Rattle.xa_frame.specs.declared.frame.Body.TheVariants.{Return, Forward, Invoke};
-ghost use Rattle.xa_frame.specs.Spelling.{kind_octet, data_octets, body_octets, header, spelled, IsData, IsBody, HasSpelling};
+ghost use Rattle.xa_types.specs.declared.reply.Reply.TheVariants.{Answered};
+ghost use Rattle.xa_frame.specs.declared.frame.Body.TheVariants.{Return, Forward, Invoke, Reply as ReplyBody};
+ghost use Rattle.xa_frame.specs.Spelling.{kind_octet, data_octets, body_octets, header, spelled, IsData, IsAnswer, IsReply, IsBody, HasSpelling};
 
 use crate::choices::{mode_octet, rval_octet};
 use crate::fields::{put_word, word_len};
@@ -9,15 +10,18 @@ use crate::frame::{Body, Frame};
 use crate::header::{HEADER, MARK};
 use crate::op::{op_len, put_op};
 use crate::payload::{data_len, put_data};
-use crate::reply::{put_coded, put_reply, reply_len};
+use crate::reply::{answered_len, put_answered, put_coded, put_reply, reply_len};
 use std::alloc::Global;
-use xa_types::{Data, Mode, Name, NoMemory, Octets, Rval};
+use xa_types::{Answer, Data, Mode, Name, NoMemory, Octets, Reply, Rval};
 
 // The kind of a RETURN.
 const RETURN: u8 = 0x04;
 
 // The kind of an INVOKE.
 const INVOKE: u8 = 0x11;
+
+// The kind of a REPLY.
+const REPLY: u8 = 0x12;
 
 /// The kind in the header of a frame with that body.
 pub fn kind_octet(body: &Body) -> u8
@@ -30,7 +34,7 @@ pub fn kind_octet(body: &Body) -> u8
         Body::Return(..) => RETURN,
         Body::Forward(..) => 0x05,
         Body::Invoke(..) => INVOKE,
-        Body::Reply(_) => 0x12,
+        Body::Reply(_) => REPLY,
         Body::Shutdown => 0x13,
     }
 }
@@ -179,6 +183,33 @@ pub fn append_invoke(
     out.reserve(HEADER + size)?;
     put_header(out, INVOKE, size as u32, tag)?;
     put_invoke(out, service, routine, mode, payload)
+}
+
+/// The same of a REPLY, which stays with the caller.
+pub fn append_reply(out: &mut Vec<u8>, tag: u32, reply: &Reply) -> Result<(), NoMemory>
+    requires { IsReply reply.now }
+    ensures { OnOk result (out.new.items ≡ out.old.items ++ spelled (record { tag = tag; body = ReplyBody reply.now })) }
+{
+    let size = reply_len(reply);
+    out.reserve(HEADER + size)?;
+    put_header(out, REPLY, size as u32, tag)?;
+    put_reply(out, reply)
+}
+
+/// The same of a REPLY with an answer, which stays with the caller.
+pub fn append_answer(
+    out: &mut Vec<u8>,
+    tag: u32,
+    descriptor: u64,
+    answer: &Answer,
+) -> Result<(), NoMemory>
+    requires { IsAnswer answer.now }
+    ensures { OnOk result (out.new.items ≡ out.old.items ++ spelled (record { tag = tag; body = ReplyBody (Answered descriptor answer.now) })) }
+{
+    let size = answered_len(answer);
+    out.reserve(HEADER + size)?;
+    put_header(out, REPLY, size as u32, tag)?;
+    put_answered(out, descriptor, answer)
 }
 
 /// The octets of a frame, which is as for `append`.

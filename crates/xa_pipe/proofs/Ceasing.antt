@@ -7,7 +7,8 @@ use Rattle.xa_frame.specs.declared.frame.Frame.{Frame}
 use Rattle.xa_frame.specs.Spelling.{spelled, all_spelled, HasSpelling, kind_octet}
 use Rattle.xa_events.specs.declared.event.StopCause.{StopCause}
 use Rattle.xa_events.specs.declared.event.StopCause.TheVariants.{Shutdown, Exit, EndOfInput, ReadFault, WriteFault, BadBytes, OutOfTurn, Starved}
-use Rattle.xa_pipe.specs.Life.{Turn, LastTurn, Written, MaySay, Shows, Gave, awaiting, is_reading, is_writing}
+use Rattle.xa_pipe.specs.Life.{Turn, LastTurn, Written, MaySay, Shows, Gave, awaiting, is_reading, is_writing, may_starve}
+use Rattle.xa_pipe.specs.declared.turn.Turn.TheVariants.{Performing}
 use Rattle.xa_pipe.specs.declared.turn.Written.TheVariants.{Cut, Missing}
 use Rattle.xa_pipe.specs.Pipe.{Piped, HasRead, Keeps, ReadsNone, Ceases}
 use Rattle.xa_frame.proofs.FrameLemmas.{all_spelled-push}
@@ -58,13 +59,17 @@ stood name tag frames turn written = record { name = name; tag = tag; frames = f
 pub gave_read : (at : LastTurn) (pipe : Piped) (cause : StopCause) → HasRead pipe at.frames → Shows at cause pipe.rest pipe.left → Gave at cause pipe.gave pipe.left
 gave_read at pipe cause read shows = told_more pipe.gave _ _ (λ octets e. (pipe.rest, e, shows)) read.told
 
+pub starves : (turn : Turn) → is_reading turn ≡ true → may_starve turn ≡ true
+starves Performing reads = refl
+starves turn reads = reads
+
 module _ (name : List ℕ) (tag : ℕ) (turn : Turn) (frames : List Frame) (pipe : Piped) where
   -- no frame stands there
   pub ceases_none : (cause : StopCause) → is_reading turn ≡ true → Keeps pipe frames cause → ReadsNone pipe frames cause → Ceases (awaiting name tag frames turn) pipe cause
   ceases_none EndOfInput reads read why = record { may = reads; gave = gave_read (awaiting name tag frames turn) pipe EndOfInput read why }
   ceases_none ReadFault reads read why = record { may = reads; gave = gave_read (awaiting name tag frames turn) pipe ReadFault read why }
   ceases_none (BadBytes place) reads read why = record { may = reads; gave = gave_read (awaiting name tag frames turn) pipe (BadBytes place) read why }
-  ceases_none Starved reads read why = record { may = reads; gave = told_more pipe.gave _ _ (λ octets more. (more.0, more.1, λ whole. more.2)) why }
+  ceases_none Starved reads read why = record { may = starves turn reads; gave = told_more pipe.gave _ _ (λ octets more. (more.0, more.1, λ whole reading. more.2)) why }
   ceases_none Shutdown reads read why = absurd why
   ceases_none Exit reads read why = absurd why
   ceases_none WriteFault reads read why = absurd why
@@ -93,4 +98,4 @@ module _ (name : List ℕ) (tag : ℕ) (turn : Turn) (frames : List Frame) (pipe
 
   -- memory ran out before it was written
   pub ceases_missing : is_writing turn ≡ true → HasRead pipe frames → Ceases (stood name tag frames turn Missing) pipe Starved
-  ceases_missing writes read = record { may = writes; gave = gave_read (stood name tag frames turn Missing) pipe Starved read (λ whole. cc whole) }
+  ceases_missing writes read = record { may = writes; gave = gave_read (stood name tag frames turn Missing) pipe Starved read (λ whole reading. cc whole) }

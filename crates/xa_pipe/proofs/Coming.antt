@@ -1,6 +1,6 @@
 -- What the takes of a life came to, how that grows, and where it stays.
 use Rattle.std.proofs.Common.{◌≡◌, ◌⊎◌, ℕ, ℤ, suc, Bool, true, false, List, [], ◌∷◌, ◌++◌, length, inl, inr, refl, ◌∙◌, ap, subst, sym}
-use Rattle.std.specs.Prelude.{IfSome, ◌&&◌, if◌then◌else◌}
+use Rattle.std.specs.Prelude.{◌&&◌, if◌then◌else◌}
 use Rattle.xa_types.specs.declared.setup.Setup.{Setup}
 use Rattle.xa_types.specs.declared.data.Data.{Data}
 use Rattle.xa_types.specs.declared.call.Rval.{Rval}
@@ -15,10 +15,9 @@ use Rattle.xa_events.specs.declared.event.Outcome.{Outcome}
 use Rattle.xa_events.specs.declared.event.Outcome.TheVariants.{BadReturn, BadForward, Starved}
 use Rattle.xa_events.specs.declared.event.StopCause.{StopCause}
 use Rattle.xa_events.specs.Finishing.{returned}
-use Rattle.xa_frame.specs.declared.frame.Frame.{Frame}
 use Rattle.xa_pipe.specs.Frames.{is_of_life}
-use Rattle.xa_pipe.specs.Life.{Turn, Finish, Occurrence, Reasons, MayFail, EndsAs, IsForwarded, ComesTo, EachCame, AllCame, came_in, finishes_in}
-use Rattle.xa_pipe.specs.declared.turn.Turn.TheVariants.{AwaitsReady, AwaitsNext, AwaitsInvoke, Serving, Exited}
+use Rattle.xa_pipe.specs.Life.{Turn, Finish, Occurrence, Reasons, MayFail, EndsAs, IsForwarded, ComesTo, EachCame, AllCame, CameBy, is_held, came_in, finishes_in}
+use Rattle.xa_pipe.specs.declared.turn.Turn.TheVariants.{AwaitsReady, AwaitsNext}
 use Rattle.xa_pipe.specs.Pipe.{Piped, CutOff}
 use Rattle.xa_pipe.specs.Standing.{Ending, IsLife}
 use Rattle.xa_pipe.proofs.Saying.{none_returned}
@@ -90,20 +89,17 @@ module _ (setup : Setup) (Why : Reasons) where
   last_no (r ∷ finishes) (f ∷ front) [] later last o next e each starved = let same : o ≡ f = cc e in comes_no r f each.0 (subst (λ (c : Occurrence). EndsAs Starved c.event) same starved)
   last_no (r ∷ finishes) (f ∷ front) (c ∷ earlier) later last o next e each starved = last_no finishes front earlier later last o next (cc e) each.1 starved
 
-  starved_in : (cause : StopCause) (turn : Turn) (finishes : List Finish) (came earlier later : List Occurrence) (o : Occurrence) → AllCame setup Why cause turn finishes came
-      → came ≡ earlier ++ o ∷ later → EndsAs Starved o.event → (turn ≡ Serving) × (later ≡ [])
-  starved_in cause Serving finishes came earlier [] o all is starved = (refl, refl)
-  starved_in cause Serving finishes came earlier (next ∷ later) o (front, last, same, each, lost) is starved = absurd (last_no finishes front earlier later last o next (sym same ∙ is) each starved)
-  starved_in cause AwaitsReady finishes came earlier later o each is starved = absurd (each_no finishes earlier later o (subst (λ (os : List Occurrence). EachCame setup Why finishes os) is each) starved)
-  starved_in cause AwaitsNext finishes came earlier later o each is starved = absurd (each_no finishes earlier later o (subst (λ (os : List Occurrence). EachCame setup Why finishes os) is each) starved)
-  starved_in cause AwaitsInvoke finishes came earlier later o each is starved = absurd (each_no finishes earlier later o (subst (λ (os : List Occurrence). EachCame setup Why finishes os) is each) starved)
-  starved_in cause Exited finishes came earlier later o each is starved = absurd (each_no finishes earlier later o (subst (λ (os : List Occurrence). EachCame setup Why finishes os) is each) starved)
+  starved_in : (cause : StopCause) (held : Bool) (finishes : List Finish) (came earlier later : List Occurrence) (o : Occurrence) → CameBy held setup Why cause finishes came
+      → came ≡ earlier ++ o ∷ later → EndsAs Starved o.event → (held ≡ true) × (later ≡ [])
+  starved_in cause true finishes came earlier [] o all is starved = (refl, refl)
+  starved_in cause true finishes came earlier (next ∷ later) o (front, last, same, each, lost) is starved = absurd (last_no finishes front earlier later last o next (sym same ∙ is) each starved)
+  starved_in cause false finishes came earlier later o each is starved = absurd (each_no finishes earlier later o (subst (λ (os : List Occurrence). EachCame setup Why finishes os) is each) starved)
 
 -- a request that ends as Starved is the last of its life, and was in hand as that ended
 pub starved_last : (setup : Setup) (clients : ℕ) (past : List Event) (over : Ending) (earlier later : List Occurrence) (o : Occurrence) → IsLife setup clients past over
-    → came_in over.life.server.0 over.life.generation.0 past ≡ earlier ++ o ∷ later → EndsAs Starved o.event → (over.life.turn ≡ Serving) × (later ≡ [])
+    → came_in over.life.server.0 over.life.generation.0 past ≡ earlier ++ o ∷ later → EndsAs Starved o.event → (is_held over.life.turn ≡ true) × (later ≡ [])
 starved_last setup clients past over earlier later o it is starved =
-    starved_in setup (MayFail setup clients) over.cause over.life.turn (finishes_in over.life.said) (came_in over.life.server.0 over.life.generation.0 past) earlier later o it.came is starved
+    starved_in setup (MayFail setup clients) over.cause (is_held over.life.turn) (finishes_in over.life.said) (came_in over.life.server.0 over.life.generation.0 past) earlier later o it.came is starved
 
 -- ---- as the life ends
 

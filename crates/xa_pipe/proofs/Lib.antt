@@ -2,6 +2,8 @@ mod NoFrame
 pub mod Frames
 pub mod Ceasing
 pub mod Saying
+pub mod Replying
+pub mod Dues
 pub mod Coming
 pub mod Taking
 pub mod Whole

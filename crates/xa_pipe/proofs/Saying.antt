@@ -7,13 +7,14 @@ use Rattle.xa_types.specs.declared.call.Rval.{Rval}
 use Rattle.xa_types.specs.declared.call.Rval.TheVariants.{Success, Fail, Exit as ExitValue}
 use Rattle.xa_frame.specs.declared.frame.Frame.{Frame}
 use Rattle.xa_frame.specs.declared.frame.Body.{Body}
-use Rattle.xa_frame.specs.declared.frame.Body.TheVariants.{Next}
+use Rattle.xa_frame.specs.declared.frame.Body.TheVariants.{Next, Op as OpBody}
+use Rattle.xa_types.specs.declared.call.Op.{Op}
 use Rattle.xa_frame.specs.Spelling.{HasSpelling}
 use Rattle.xa_pipe.specs.declared.hearing.Finish.TheVariants.{Returns, Forwards}
-use Rattle.xa_pipe.specs.Frames.{next_frame, ready_frame, return_frame, forward_frame, finish_frame}
+use Rattle.xa_pipe.specs.Frames.{next_frame, ready_frame, return_frame, forward_frame, finish_frame, op_frame}
 use Rattle.xa_pipe.specs.Life.{Says, Turn, Finish, MaySay, turn_behind, tag_after, finish_of, finishes_in}
-use Rattle.xa_pipe.specs.Life.Says.{Silent, Named, Free, Invoked, Answers, Passes}
-use Rattle.xa_pipe.specs.declared.turn.Turn.TheVariants.{AwaitsReady, AwaitsNext, AwaitsInvoke, Serving, Exited}
+use Rattle.xa_pipe.specs.Life.Says.{Silent, Named, Free, Invoked, Calls, Replied, CallsNoMore, Answers, Passes}
+use Rattle.xa_pipe.specs.declared.turn.Turn.TheVariants.{AwaitsReady, AwaitsNext, AwaitsInvoke, Serving, Finishing, Performing, Exited}
 
 -- ---- each frame has a spelling
 
@@ -25,6 +26,9 @@ all_spelt Silent = All-nil HasSpelling
 all_spelt (Named h) = All-cons HasSpelling _ [] h (All-nil HasSpelling)
 all_spelt (Free says) = All-push HasSpelling _ _ (all_spelt says) next_spelled
 all_spelt (Invoked says) = all_spelt says
+all_spelt (Calls op may says h) = All-push HasSpelling _ _ (all_spelt says) h
+all_spelt (Replied says) = all_spelt says
+all_spelt (CallsNoMore says) = all_spelt says
 all_spelt (Answers value code payload says h) = All-push HasSpelling _ _ (all_spelt says) h
 all_spelt (Passes service payload says h) = All-push HasSpelling _ _ (all_spelt says) h
 
@@ -37,6 +41,9 @@ finishes_append (f ∷ fs) gs = ap (λ (rs : List Finish). finish_of f.body ++ r
 -- a frame that is neither adds none
 pub finishes_next : (frames : List Frame) → finishes_in (frames ++ next_frame ∷ []) ≡ finishes_in frames
 finishes_next frames = finishes_append frames (next_frame ∷ []) ∙ append-nil (finishes_in frames)
+
+pub finishes_op : (frames : List Frame) (tag : ℕ) (op : Op) → finishes_in (frames ++ op_frame tag op ∷ []) ≡ finishes_in frames
+finishes_op frames tag op = finishes_append frames (op_frame tag op ∷ []) ∙ append-nil (finishes_in frames)
 
 -- and one that is adds itself
 finish_is : (tag : ℕ) (back : Finish) → finish_of (finish_frame tag back).body ≡ back ∷ []
@@ -59,6 +66,9 @@ returned_is Silent = refl
 returned_is (Named h) = refl
 returned_is (Free {n} {frames} says) = returned_is says ∙ ap length (sym (finishes_next frames))
 returned_is (Invoked says) = returned_is says
+returned_is (Calls {n} {frames} op may says h) = returned_is says ∙ ap length (sym (finishes_op frames (tag_after n) op))
+returned_is (Replied says) = returned_is says
+returned_is (CallsNoMore says) = returned_is says
 returned_is (Answers {n} {frames} value code payload says h) = counted n (tag_after n) frames (Returns (record { value = value; code = code; payload = payload })) (returned_is says)
 returned_is (Passes {n} {frames} service payload says h) = counted n (tag_after n) frames (Forwards (record { service = service; payload = payload })) (returned_is says)
 
@@ -72,17 +82,18 @@ none_returned {name} {frames} says = no_finishes (finishes_in frames) (returned_
 
 -- ---- whose turn it is
 
-abbrev is_next : Body → Bool
-is_next Next = true
-is_next body = false
+abbrev goes_on : Body → Bool
+goes_on Next = true
+goes_on (OpBody op) = true
+goes_on body = false
 
--- whether the last frame is NEXT
+-- whether the last frame is NEXT or an OP
 abbrev ends_free : List Frame → Bool
 ends_free [] = false
-ends_free (f ∷ []) = is_next f.body
+ends_free (f ∷ []) = goes_on f.body
 ends_free (f ∷ g ∷ fs) = ends_free (g ∷ fs)
 
-ends_with : (fs : List Frame) (f : Frame) → ends_free (fs ++ f ∷ []) ≡ is_next f.body
+ends_with : (fs : List Frame) (f : Frame) → ends_free (fs ++ f ∷ []) ≡ goes_on f.body
 ends_with [] f = refl
 ends_with (g ∷ []) f = refl
 ends_with (g ∷ h ∷ fs) f = ends_with (h ∷ fs) f
@@ -92,6 +103,8 @@ is_free AwaitsReady = false
 is_free AwaitsNext = false
 is_free AwaitsInvoke = true
 is_free Serving = true
+is_free Finishing = true
+is_free Performing = true
 is_free Exited = false
 
 behind_return : (value : Rval) → is_free (turn_behind value) ≡ false
@@ -104,6 +117,9 @@ turn_is Silent = refl
 turn_is (Named h) = refl
 turn_is (Free {n} {frames} says) = ends_with frames next_frame
 turn_is (Invoked says) = turn_is says
+turn_is (Calls {n} {frames} op may says h) = ends_with frames (op_frame (tag_after n) op)
+turn_is (Replied says) = turn_is says
+turn_is (CallsNoMore says) = turn_is says
 turn_is (Answers {n} {frames} value code payload says h) = ends_with frames (return_frame (tag_after n) value code payload) ∙ sym (behind_return value)
 turn_is (Passes {n} {frames} service payload says h) = ends_with frames (forward_frame (tag_after n) service payload)
 
@@ -149,6 +165,9 @@ module _ {name : List ℕ} where
   next_at (Named h) fs ks k e = at_end (ready_frame name) Silent refl none_before fs ks k (snoc_cases fs [] ks (ready_frame name) k e)
   next_at (Free {n} {frames} says) fs ks k e = at_end next_frame says refl (next_at says) fs ks k (snoc_cases fs frames ks next_frame k e)
   next_at (Invoked says) fs ks k e = next_at says fs ks k e
+  next_at (Calls {n} {frames} op may says h) fs ks k e = at_end (op_frame (tag_after n) op) says (inr (op, may, refl)) (next_at says) fs ks k (snoc_cases fs frames ks _ k e)
+  next_at (Replied says) fs ks k e = next_at says fs ks k e
+  next_at (CallsNoMore says) fs ks k e = next_at says fs ks k e
   next_at (Answers {n} {frames} value code payload says h) fs ks k e =
       at_end (return_frame (tag_after n) value code payload) says (inl (value, code, payload, refl)) (next_at says) fs ks k (snoc_cases fs frames ks _ k e)
   next_at (Passes {n} {frames} service payload says h) fs ks k e =
@@ -160,9 +179,11 @@ module _ (name : List ℕ) where
   serves n m AwaitsNext k same free may = absurd (cc free)
   serves n m AwaitsInvoke k same free may = absurd may
   serves n m Serving k same free may = subst (λ (i : ℕ). MaySay name (tag_after i) Serving k) (sym same) may
+  serves n m Finishing k same free may = subst (λ (i : ℕ). MaySay name (tag_after i) Serving k) (sym same) (inl may)
+  serves n m Performing k same free may = absurd may
   serves n m Exited k same free may = absurd (cc free)
 
-  -- behind an INVOKE comes its RETURN or its FORWARD
+  -- behind an INVOKE or a REPLY comes an OP, or its RETURN or its FORWARD
   pub answers_next : (n whole : ℕ) (fs ks : List Frame) (k : Frame) (turn : Turn) → Says name n fs Serving → Says name whole (fs ++ k ∷ ks) turn → MaySay name (tag_after n) Serving k
   answers_next n whole fs ks k turn here says =
       let next = next_at says fs ks k refl in

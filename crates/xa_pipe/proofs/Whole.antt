@@ -1,5 +1,5 @@
 -- A life whose link gives all that its program says: its requests end as that says.
-use Rattle.std.proofs.Common.{◌≡◌, ◌⊎◌, ℕ, ◌≤◌, true, List, [], ◌∷◌, ◌++◌, length, Option, Some, inl, inr, refl, sym, ap, subst, ◌∙◌, append_assoc, append-nil, arith}
+use Rattle.std.proofs.Common.{◌≡◌, ◌⊎◌, ℕ, ◌≤◌, Bool, true, false, List, [], ◌∷◌, ◌++◌, length, Option, Some, inl, inr, refl, sym, ap, subst, ◌∙◌, append_assoc, append-nil, arith}
 use Rattle.std.specs.Prelude.{IfSome}
 use Rattle.std.specs.List.{All}
 use Rattle.std.proofs.lemmas.List.{length-append}
@@ -10,13 +10,15 @@ use Rattle.xa_frame.specs.declared.frame.Frame.{Frame}
 use Rattle.xa_frame.specs.Spelling.{spelled, all_spelled, HasSpelling}
 use Rattle.xa_frame.proofs.FrontLemmas.{no_other, is_whole, is_partial, still_malformed}
 use Rattle.xa_events.specs.declared.event.Event.{Event}
+use Rattle.xa_events.specs.Words.{AtEach}
 use Rattle.xa_events.specs.declared.event.Outcome.TheVariants.{Starved as StarvedOutcome}
 use Rattle.xa_events.specs.declared.event.StopCause.{StopCause}
 use Rattle.xa_events.specs.declared.event.StopCause.TheVariants.{Shutdown, Exit, EndOfInput, ReadFault, WriteFault, BadBytes, OutOfTurn, Starved}
-use Rattle.xa_pipe.specs.Life.{Says, Turn, Finish, Written, Occurrence, Reasons, MayFail, EndsAs, EachCame, AllCame, MaySay, IsCounted, Shows, came_in, finishes_in, lost_by, may_end, tag_after}
-use Rattle.xa_pipe.specs.declared.turn.Turn.TheVariants.{AwaitsReady, AwaitsNext, AwaitsInvoke, Serving, Exited}
+use Rattle.xa_pipe.specs.Life.{Says, Turn, Finish, Written, Occurrence, Reasons, MayFail, EndsAs, EachCame, AllCame, MaySay, IsCounted, Shows, StopsSpent, cause_of, stops_life, came_in, finishes_in, lost_by, may_end, tag_after}
+use Rattle.xa_pipe.specs.declared.turn.Turn.TheVariants.{AwaitsReady, AwaitsNext, AwaitsInvoke, Serving, Finishing, Performing, Exited}
+use Rattle.xa_pipe.specs.declared.turn.Written.TheVariants.{Whole, Cut, Missing}
 use Rattle.xa_pipe.specs.Standing.{Ending, IsLife, returned, last_turn}
-use Rattle.xa_pipe.specs.Whole.{GivesAll, CameAsSaid}
+use Rattle.xa_pipe.specs.Whole.{GivesAll, CameAsSaid, CallsLeft}
 use Rattle.xa_pipe.proofs.Coming.{came_length}
 use Rattle.xa_pipe.proofs.Saying.{all_spelt, finishes_append, answers_next}
 
@@ -82,7 +84,16 @@ module _ (setup : Setup) (Why : Reasons) where
   said_lost (r ∷ finishes) more (c ∷ []) last each lost few = (each.0, said_lost finishes more [] last each.1 lost (omega (arith, few)))
   said_lost (r ∷ finishes) more (c ∷ d ∷ earlier) last each lost few = (each.0, said_lost finishes more (d ∷ earlier) last each.1 lost (omega (arith, few)))
 
--- ---- the law
+-- ---- calls
+
+-- where the calls of the server hadn't come to their end before an end of the life, the life didn't end behind them
+still_calls : (clients server g : ℕ) (cause : StopCause) (past : List Event) → cause_of server g past ≡ Some cause → AtEach (CallsLeft clients server g) past → AtEach (StopsSpent clients server g) past → ⊥
+still_calls clients server g cause [] why left_some spent = cc why
+still_calls clients server g cause (e ∷ past) why left_some spent = by_one (stops_life server g e) refl (λ earlier. still_calls clients server g cause past earlier left_some.1 spent.1)
+  where
+    by_one : (b : Bool) → stops_life server g e ≡ b → (cause_of server g past ≡ Some cause → ⊥) → ⊥
+    by_one true is before = omega (arith, left_some.0 is, spent.0 is)
+    by_one false is before = before (rw is at why)
 
 none_more : {X : Type 0} (xs ys : List X) → length (xs ++ ys) ≤ length xs → xs ++ ys ≡ xs
 none_more xs [] few = append-nil xs
@@ -107,16 +118,14 @@ module _ (setup : Setup) (Why : Reasons) (name : List ℕ) (returned n : ℕ) (f
       (subst (λ (rs : List Finish). CameAsSaid setup Why rs came) (append-nil (finishes_in frames)) (said_front setup Why (finishes_in frames) [] came each))
 
   one_in_hand : (earlier : List Occurrence) (last : Occurrence) → came ≡ earlier ++ last ∷ [] → EachCame setup Why (finishes_in frames) earlier → EndsAs (lost_by cause) last.event
-      → Says name returned frames Serving → may_end cause Serving written ≡ true → IsCounted cause 0 0
-      → Shows (record { name = name; tag = tag_after returned; frames = frames; turn = Serving; written = written }) cause rest left → Both → CameAsSaid setup Why (finishes_in all) came
-  one_in_hand earlier last is each lost here may counted shows (inl ([], same, stands)) =
+      → ((k : Frame) (ks : List Frame) (y : List ℕ) → Says name n (frames ++ k ∷ ks) last_turn → HasSpelling k → rest ++ others ≡ spelled k ++ y → cause ≡ Starved) → Both → CameAsSaid setup Why (finishes_in all) came
+  one_in_hand earlier last is each lost starves (inl ([], same, stands)) =
       let many = came_length setup Why (finishes_in frames) earlier each in
       absurd (omega (arith, few, many, ap length is, length-append earlier (last ∷ []), ap length (ap (λ (fs : List Frame). finishes_in fs) (same ∙ append-nil frames))))
-  one_in_hand earlier last is each lost here may counted shows (inl (k ∷ ks, same, stands)) =
+  one_in_hand earlier last is each lost starves (inl (k ∷ ks, same, stands)) =
       let so : Says name n (frames ++ k ∷ ks) last_turn = subst (λ (fs : List Frame). Says name n fs last_turn) same says in
       let spelt = All-head HasSpelling k ks (All-behind frames (k ∷ ks) (all_spelt so)) in
-      let starved = whole_finish name returned n frames last_turn here left others held rest (all_spelled ks ++ more) written k ks so spelt
-      (stands ∙ append_assoc (spelled k) (all_spelled ks) more) cause may counted shows in
+      let starved = starves k ks (all_spelled ks ++ more) so spelt (stands ∙ append_assoc (spelled k) (all_spelled ks) more) in
       let wide = longer frames (k ∷ ks) all same in
       let enough = subst (λ (rs : List Finish). length (earlier ++ last ∷ []) ≤ length rs) wide (subst (λ (os : List Occurrence). length os ≤ length (finishes_in all)) is few) in
       let ended = said_lost setup Why (finishes_in frames) (finishes_in (k ∷ ks)) earlier last each (subst (λ (c : StopCause). EndsAs (lost_by c) last.event) starved lost) enough in
@@ -126,22 +135,47 @@ module _ (setup : Setup) (Why : Reasons) (name : List ℕ) (returned n : ℕ) (f
       All-behind : (fs gs : List Frame) → All HasSpelling (fs ++ gs) → All HasSpelling gs
       All-behind [] gs h = h
       All-behind (f ∷ fs) gs h = All-behind fs gs (All-tail HasSpelling f (fs ++ gs) h)
-  one_in_hand earlier last is each lost here may counted shows (inr (ks, same, stands)) =
+  one_in_hand earlier last is each lost starves (inr (ks, same, stands)) =
       let many = came_length setup Why (finishes_in frames) earlier each in
       absurd (omega (arith, few, many, ap length is, length-append earlier (last ∷ []), ap length (longer all ks frames same), length-append (finishes_in all) (finishes_in ks)))
 
-  by_turn : (turn : Turn) → Says name returned frames turn → AllCame setup Why cause turn (finishes_in frames) came → may_end cause turn written ≡ true → IsCounted cause 0 0
-      → Shows (record { name = name; tag = tag_after returned; frames = frames; turn = turn; written = written }) cause rest left → Both → CameAsSaid setup Why (finishes_in all) came
-  by_turn AwaitsReady here each may counted shows both = none_in_hand each both
-  by_turn AwaitsNext here each may counted shows both = none_in_hand each both
-  by_turn AwaitsInvoke here each may counted shows both = none_in_hand each both
-  by_turn Serving here (earlier, last, is, each, lost) may counted shows both = one_in_hand earlier last is each lost here may counted shows both
-  by_turn Exited here each may counted shows both = none_in_hand each both
+  -- as a call was to be made, a life ends for want of memory alone
+  calls_starved : (why : StopCause) (last : Written) → may_end why Performing last ≡ true → why ≡ Starved
+  calls_starved Starved last may = refl
+  calls_starved Shutdown last may = absurd (cc may)
+  calls_starved Exit last may = absurd (cc may)
+  calls_starved EndOfInput Whole may = absurd (cc may)
+  calls_starved EndOfInput Cut may = absurd (cc may)
+  calls_starved EndOfInput Missing may = absurd (cc may)
+  calls_starved ReadFault Whole may = absurd (cc may)
+  calls_starved ReadFault Cut may = absurd (cc may)
+  calls_starved ReadFault Missing may = absurd (cc may)
+  calls_starved (BadBytes place) Whole may = absurd (cc may)
+  calls_starved (BadBytes place) Cut may = absurd (cc may)
+  calls_starved (BadBytes place) Missing may = absurd (cc may)
+  calls_starved (OutOfTurn kind tag) Whole may = absurd (cc may)
+  calls_starved (OutOfTurn kind tag) Cut may = absurd (cc may)
+  calls_starved (OutOfTurn kind tag) Missing may = absurd (cc may)
+  calls_starved WriteFault Whole may = absurd (cc may)
+  calls_starved WriteFault Cut may = absurd (cc may)
+  calls_starved WriteFault Missing may = absurd (cc may)
 
-pub ends_as_said : (setup : Setup) (clients : ℕ) (past : List Event) (over : Ending) (frames : List Frame) → IsLife setup clients past over → over.life.link.reads ≡ 0 → over.life.link.writes ≡ 0
+  by_turn : (turn : Turn) → (turn ≡ Finishing → ⊥) → Says name returned frames turn → AllCame setup Why cause turn (finishes_in frames) came → may_end cause turn written ≡ true → IsCounted cause 0 0
+      → Shows (record { name = name; tag = tag_after returned; frames = frames; turn = turn; written = written }) cause rest left → Both → CameAsSaid setup Why (finishes_in all) came
+  by_turn AwaitsReady left_some here each may counted shows both = none_in_hand each both
+  by_turn AwaitsNext left_some here each may counted shows both = none_in_hand each both
+  by_turn AwaitsInvoke left_some here each may counted shows both = none_in_hand each both
+  by_turn Serving left_some here (earlier, last, is, each, lost) may counted shows both =
+      one_in_hand earlier last is each lost (λ k ks y so spelt stands. whole_finish name returned n frames last_turn here left others held rest y written k ks so spelt stands cause may counted shows) both
+  by_turn Performing left_some here (earlier, last, is, each, lost) may counted shows both = one_in_hand earlier last is each lost (λ k ks y so spelt stands. calls_starved cause written may) both
+  by_turn Finishing left_some here each may counted shows both = absurd (left_some refl)
+  by_turn Exited left_some here each may counted shows both = none_in_hand each both
+
+pub ends_as_said : (setup : Setup) (clients : ℕ) (past : List Event) (over : Ending) (frames : List Frame) → IsLife setup clients past over → AtEach (CallsLeft clients over.life.server.0 over.life.generation.0) past
+    → over.life.link.reads ≡ 0 → over.life.link.writes ≡ 0
     → GivesAll over.life.name frames over.life.link → length (came_in over.life.server.0 over.life.generation.0 past) ≤ length (finishes_in frames)
     → CameAsSaid setup (MayFail setup clients) (finishes_in frames) (came_in over.life.server.0 over.life.generation.0 past)
-ends_as_said setup clients past over frames is no_reads no_writes gives few =
+ends_as_said setup clients past over frames is left_some no_reads no_writes gives few =
     let life = over.life in
     let ended = is.over_is in
     let came = came_in life.server.0 life.generation.0 past in
@@ -150,4 +184,4 @@ ends_as_said setup clients past over frames is no_reads no_writes gives few =
     sym (append_assoc (all_spelled life.said) told.0 gives.others) ∙ (ap (λ (xs : List ℕ). xs ++ gives.others) (sym told.1) ∙ gives.whole) in
     let counted = subst (λ (writes : ℕ). IsCounted over.cause 0 writes) no_writes (subst (λ (reads : ℕ). IsCounted over.cause reads life.link.writes) no_reads ended.counted) in
     by_turn setup (MayFail setup clients) life.name (returned life) gives.returned life.said frames gives.turn over.cause over.written gives.says came life.link.left gives.others told.0 gives.more gives.held few
-    life.turn ended.says is.came ended.may counted told.2 (fronts life.said frames (told.0 ++ gives.others) gives.more (all_spelt ended.says) (all_spelt gives.says) octets)
+    life.turn (λ finishing. still_calls clients life.server.0 life.generation.0 over.cause past is.stopped left_some (is.spent finishing)) ended.says is.came ended.may counted told.2 (fronts life.said frames (told.0 ++ gives.others) gives.more (all_spelt ended.says) (all_spelt gives.says) octets)

@@ -7,15 +7,15 @@ use Rattle.xa_link.specs.Links.{closed}
 use Rattle.xa_link.specs.Told.{Grew}
 use Rattle.xa_frame.specs.declared.frame.Frame.{Frame}
 use Rattle.xa_frame.specs.declared.frame.Body.{Body}
-use Rattle.xa_frame.specs.declared.frame.Body.TheVariants.{Return as ReturnBody, Forward as ForwardBody}
+use Rattle.xa_frame.specs.declared.frame.Body.TheVariants.{Op as OpBody, Return as ReturnBody, Forward as ForwardBody}
 use Rattle.xa_frame.specs.Spelling.{spelled}
-use Rattle.xa_events.specs.declared.event.StopCause.TheVariants.{Exit}
-use Rattle.xa_pipe.specs.declared.turn.Turn.TheVariants.{AwaitsReady, AwaitsNext, AwaitsInvoke, Serving}
+use Rattle.xa_events.specs.declared.event.StopCause.TheVariants.{Exit, Starved}
+use Rattle.xa_pipe.specs.declared.turn.Turn.TheVariants.{AwaitsReady, AwaitsNext, AwaitsInvoke, Serving, Finishing, Performing}
 use Rattle.xa_pipe.specs.declared.turn.Written.TheVariants.{Whole}
 use Rattle.xa_pipe.specs.Frames.{ready_frame, next_frame}
 use Rattle.xa_pipe.specs.Pipe.{invoke_frame}
 use Rattle.xa_pipe.specs.Life.{Turn, LinkShows, MaySay, turn_behind}
-use Rattle.xa_pipe.specs.Standing.{LifeState, Ending, tag_of}
+use Rattle.xa_pipe.specs.Standing.{LifeState, Ending, tag_of, cut_short}
 
 -- a life as it begins: nothing went through its link
 abbrev pub begun : List ℕ → ServerId → Generation → LinkShows → LifeState
@@ -29,6 +29,9 @@ turn_after AwaitsReady body = AwaitsNext
 turn_after AwaitsNext body = AwaitsInvoke
 turn_after Serving (ReturnBody value code payload) = turn_behind value
 turn_after Serving (ForwardBody service payload) = AwaitsNext
+turn_after Serving (OpBody op) = Performing
+turn_after Finishing (ReturnBody value code payload) = turn_behind value
+turn_after Finishing (ForwardBody service payload) = AwaitsNext
 turn_after turn body = turn
 
 -- the life with one more frame of its program
@@ -58,7 +61,7 @@ FellGreeting over old = Fell over old ⊎ Fell over (with_said (ready_frame old.
 
 -- ---- what is written to it
 
--- the life with an INVOKE in hand
+-- the life with that INVOKE, or that REPLY, as the last frame that was due
 abbrev pub with_asked : Frame → LinkShows → LifeState → LifeState
 with_asked f link life = record life { link = link; asked = life.asked ++ f ∷ []; turn = Serving }
 
@@ -66,12 +69,12 @@ with_asked f link life = record life { link = link; asked = life.asked ++ f ∷ 
 abbrev pub next_invoke : List ℕ → List ℕ → Data → LifeState → Frame
 next_invoke service routine payload life = invoke_frame service routine (tag_of life) payload
 
--- that INVOKE was written; nothing was read
+-- that INVOKE or REPLY was written; nothing was read
 pub record Invoked (f : Frame) (new old : LifeState) : Type 0 where
   pub made : new ≡ with_asked f (record old.link { took = new.link.took; left = new.link.left }) old
   pub took : Grew old.link.took new.link.took (spelled f)
 
--- the life ended as that INVOKE was to be written, and it wasn't written whole; nothing was read
+-- the life ended as that INVOKE or REPLY was to be written, and it wasn't written whole; nothing was read
 pub record Unsent (f : Frame) (over : Ending) (old : LifeState) : Type 0 where
   pub life : over.life ≡ with_asked f over.life.link old
   pub gave : over.life.link.gave ≡ old.link.gave
@@ -81,6 +84,16 @@ pub record Unsent (f : Frame) (over : Ending) (old : LifeState) : Type 0 where
 pub record ShutDown (over : Ending) (old : LifeState) : Type 0 where
   pub life : over.life ≡ record old { link = over.life.link }
   pub gave : over.life.link.gave ≡ old.link.gave
+
+-- the life with no call to come any more
+abbrev pub spent : LifeState → LifeState
+spent life = record life { turn = Finishing }
+
+-- the life ended for want of memory as a call was to be made: its program was ended by force, and nothing was read or written
+pub record Starves (over : Ending) (old : LifeState) : Type 0 where
+  pub life : over.life ≡ cut_short old
+  pub cause : over.cause ≡ Starved
+  pub written : over.written ≡ Whole
 
 -- the life ended by TPEXIT: its link was closed, and nothing was read or written
 pub record Exits (over : Ending) (old : LifeState) : Type 0 where

@@ -8,15 +8,16 @@ use Rattle.xa_events.specs.declared.event.StopCause.TheVariants.{Shutdown, Exit,
 use Rattle.xa_pipe.specs.declared.course.Course.{Course}
 use Rattle.xa_pipe.specs.declared.turn.Written.{Written}
 use Rattle.xa_pipe.specs.declared.turn.Written.TheVariants.{Cut, Missing}
-use Rattle.xa_pipe.specs.declared.turn.Turn.{Turn}
-use Rattle.xa_pipe.specs.declared.turn.Turn.TheVariants.{Serving}
+use Rattle.xa_frame.specs.declared.frame.Body.{Body}
+use Rattle.xa_frame.specs.declared.frame.Body.TheVariants.{Return as ReturnBody, Forward as ForwardBody}
 use Rattle.xa_pipe.specs.Pipe.{HasRead, shown}
 use Rattle.xa_pipe.specs.Standing.{LifeState, Ending, IsSound, tag_of, is_killed, is_open}
 
--- the number of the next INVOKE behind what the program said in that turn
-abbrev pub tag_after_turn : Turn → ℕ → ℕ
-tag_after_turn Serving tag = (tag + 1) % 2 ^ 32
-tag_after_turn turn tag = tag
+-- the number of the next INVOKE behind what the program said
+abbrev pub tag_behind : Body → ℕ → ℕ
+tag_behind (ReturnBody value code payload) tag = (tag + 1) % 2 ^ 32
+tag_behind (ForwardBody service payload) tag = (tag + 1) % 2 ^ 32
+tag_behind body tag = tag
 
 -- what the link took of a frame that wasn't written by that cause
 abbrev pub unwritten : StopCause → Written

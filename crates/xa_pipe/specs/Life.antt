@@ -6,6 +6,7 @@ use Rattle.xa_types.specs.declared.setup.Setup.{Setup}
 use Rattle.xa_types.specs.declared.ids.Generation.{Generation}
 use Rattle.xa_types.specs.declared.call.Rval.{Rval}
 use Rattle.xa_types.specs.declared.call.Rval.TheVariants.{Exit as ExitValue}
+use Rattle.xa_types.specs.declared.call.Op.{Op}
 use Rattle.xa_types.specs.Setup.{queue_of}
 use Rattle.xa_link.specs.Told.{Empty}
 pub use Rattle.xa_link.specs.Links.{LinkShows}
@@ -21,16 +22,18 @@ use Rattle.xa_events.specs.declared.event.Outcome.{Outcome}
 use Rattle.xa_events.specs.declared.event.Outcome.TheVariants.{BadForward, Died, Starved}
 use Rattle.xa_events.specs.declared.event.StopCause.{StopCause}
 use Rattle.xa_events.specs.declared.event.StopCause.TheVariants.{Shutdown, Exit, EndOfInput, ReadFault, WriteFault, BadBytes, OutOfTurn, Starved as StarvedStop}
-use Rattle.xa_events.specs.Words.{latest, from_each, AtEach}
+use Rattle.xa_events.specs.Words.{latest, from_each}
 use Rattle.xa_events.specs.Queue.{is_closed}
+use Rattle.xa_events.specs.State.{caller_of}
+use Rattle.xa_events.specs.Caller.{last_op}
 use Rattle.xa_events.specs.Finishing.{ForwardEnds, return_by}
 pub use Rattle.xa_pipe.specs.declared.hearing.Finish.{Finish}
 use Rattle.xa_pipe.specs.declared.hearing.Finish.TheVariants.{Returns, Forwards}
 pub use Rattle.xa_pipe.specs.declared.turn.Turn.{Turn}
-use Rattle.xa_pipe.specs.declared.turn.Turn.TheVariants.{AwaitsReady, AwaitsNext, AwaitsInvoke, Serving, Exited}
+use Rattle.xa_pipe.specs.declared.turn.Turn.TheVariants.{AwaitsReady, AwaitsNext, AwaitsInvoke, Serving, Finishing, Performing, Exited}
 pub use Rattle.xa_pipe.specs.declared.turn.Written.{Written}
 use Rattle.xa_pipe.specs.declared.turn.Written.TheVariants.{Whole, Cut, Missing}
-use Rattle.xa_pipe.specs.Frames.{is_of_life, next_frame, ready_frame, shutdown_frame, return_frame, forward_frame, frames_out}
+use Rattle.xa_pipe.specs.Frames.{is_of_life, next_frame, ready_frame, return_frame, forward_frame, op_frame, may_call, ops_in, replies_in, tags_of}
 
 -- ---- what the program says
 
@@ -43,17 +46,21 @@ turn_behind value = AwaitsNext
 abbrev pub tag_after : ℕ → ℕ
 tag_after n = (n + 1) % 2 ^ 32
 
--- the program has said these frames, n of them RETURNs and FORWARDs, and this comes next: READY and NEXT, and to each INVOKE its RETURN or its FORWARD,
--- and NEXT; each has a spelling
+-- the program has said these frames, n of them RETURNs and FORWARDs, and this comes next: READY and NEXT, and to each INVOKE any number of OPs, one behind
+-- the REPLY to the other, then its RETURN or its FORWARD, and NEXT; each has a spelling
 pub data Says (name : List ℕ) : ℕ → List Frame → Turn → Type 0 where
   Silent : Says name 0 [] AwaitsReady
   Named : HasSpelling (ready_frame name) → Says name 0 (ready_frame name ∷ []) AwaitsNext
   Free : {n : ℕ} {frames : List Frame} → Says name n frames AwaitsNext → Says name n (frames ++ next_frame ∷ []) AwaitsInvoke
   Invoked : {n : ℕ} {frames : List Frame} → Says name n frames AwaitsInvoke → Says name n frames Serving
-  Answers : {n : ℕ} {frames : List Frame} (value : Rval) (code : ℤ) (payload : Data) → Says name n frames Serving
+  Calls : {n : ℕ} {frames : List Frame} (op : Op) → may_call op ≡ true → Says name n frames Serving → HasSpelling (op_frame (tag_after n) op)
+      → Says name n (frames ++ op_frame (tag_after n) op ∷ []) Performing
+  Replied : {n : ℕ} {frames : List Frame} → Says name n frames Performing → Says name n frames Serving
+  CallsNoMore : {n : ℕ} {frames : List Frame} → Says name n frames Serving → Says name n frames Finishing
+  Answers : {n : ℕ} {frames : List Frame} (value : Rval) (code : ℤ) (payload : Data) → Says name n frames Finishing
       → HasSpelling (return_frame (tag_after n) value code payload)
       → Says name (n + 1) (frames ++ return_frame (tag_after n) value code payload ∷ []) (turn_behind value)
-  Passes : {n : ℕ} {frames : List Frame} (service : List ℕ) (payload : Data) → Says name n frames Serving → HasSpelling (forward_frame (tag_after n) service payload)
+  Passes : {n : ℕ} {frames : List Frame} (service : List ℕ) (payload : Data) → Says name n frames Finishing → HasSpelling (forward_frame (tag_after n) service payload)
       → Says name (n + 1) (frames ++ forward_frame (tag_after n) service payload ∷ []) AwaitsNext
 
 -- ---- what that comes to
@@ -119,11 +126,21 @@ abbrev pub lost_by : StopCause → Outcome
 lost_by StarvedStop = Starved
 lost_by cause = Died
 
--- each RETURN and FORWARD came to its event, and the request in hand was lost with the life: no more than one ends as Starved
-abbrev pub AllCame : Setup → Reasons → StopCause → Turn → List Finish → List Occurrence → Type 0
-AllCame setup Why cause Serving finishes came =
+-- a request is in hand
+abbrev pub is_held : Turn → Bool
+is_held Serving = true
+is_held Finishing = true
+is_held Performing = true
+is_held turn = false
+
+-- each RETURN and FORWARD came to its event, and with one more in hand that was lost with the life: no more than one ends as Starved
+abbrev pub CameBy : Bool → Setup → Reasons → StopCause → List Finish → List Occurrence → Type 0
+CameBy true setup Why cause finishes came =
     (earlier : List Occurrence) × (last : Occurrence) × (came ≡ earlier ++ last ∷ []) × EachCame setup Why finishes earlier × EndsAs (lost_by cause) last.event
-AllCame setup Why cause turn finishes came = EachCame setup Why finishes came
+CameBy false setup Why cause finishes came = EachCame setup Why finishes came
+
+abbrev pub AllCame : Setup → Reasons → StopCause → Turn → List Finish → List Occurrence → Type 0
+AllCame setup Why cause turn finishes came = CameBy (is_held turn) setup Why cause finishes came
 
 -- ---- how the life ends
 
@@ -139,12 +156,17 @@ pub record LastTurn : Type 0 where
 abbrev pub awaiting : List ℕ → ℕ → List Frame → Turn → LastTurn
 awaiting name tag frames turn = record { name = name; tag = tag; frames = frames; turn = turn; written = Whole }
 
+-- the frame is the RETURN or the FORWARD of the invocation with that number
+abbrev pub IsFinish : ℕ → Frame → Type 0
+IsFinish tag f = ((value : Rval) × (code : ℤ) × (payload : Data) × (f ≡ return_frame tag value code payload))
+    ⊎ ((service : List ℕ) × (payload : Data) × (f ≡ forward_frame tag service payload))
+
 -- a frame that the program may say in that turn
 abbrev pub MaySay : List ℕ → ℕ → Turn → Frame → Type 0
 MaySay name tag AwaitsReady f = f ≡ ready_frame name
 MaySay name tag AwaitsNext f = f ≡ next_frame
-MaySay name tag Serving f = ((value : Rval) × (code : ℤ) × (payload : Data) × (f ≡ return_frame tag value code payload))
-    ⊎ ((service : List ℕ) × (payload : Data) × (f ≡ forward_frame tag service payload))
+MaySay name tag Serving f = IsFinish tag f ⊎ ((op : Op) × (may_call op ≡ true) × (f ≡ op_frame tag op))
+MaySay name tag Finishing f = IsFinish tag f
 MaySay name tag turn f = ⊥
 
 -- a frame of the program is to come
@@ -152,15 +174,28 @@ abbrev pub is_reading : Turn → Bool
 is_reading AwaitsReady = true
 is_reading AwaitsNext = true
 is_reading Serving = true
+is_reading Finishing = true
 is_reading turn = false
 
--- a frame of the monitor is to be written, or was written last
+-- a service is to go on with its request
+abbrev pub is_acting : Turn → Bool
+is_acting Serving = true
+is_acting Finishing = true
+is_acting turn = false
+
+-- INVOKE or SHUTDOWN is to be written, or an INVOKE or a REPLY was written last
 abbrev pub is_writing : Turn → Bool
 is_writing AwaitsInvoke = true
 is_writing Serving = true
 is_writing turn = false
 
--- in which turn a life may end with that cause: as a frame was to come, with all written, or as one was to be written
+-- memory may run out as a frame is to come, or as a call is to be made
+abbrev pub may_starve : Turn → Bool
+may_starve Performing = true
+may_starve turn = is_reading turn
+
+-- in which turn a life may end with that cause: as a frame was to come, with all written, or as one was to be written; for want of memory also as a call was
+-- to be made
 abbrev pub may_end : StopCause → Turn → Written → Bool
 may_end Shutdown AwaitsInvoke Whole = true
 may_end Exit Exited Whole = true
@@ -168,7 +203,7 @@ may_end EndOfInput turn Whole = is_reading turn
 may_end ReadFault turn Whole = is_reading turn
 may_end (BadBytes place) turn Whole = is_reading turn
 may_end (OutOfTurn kind tag) turn Whole = is_reading turn
-may_end StarvedStop turn Whole = is_reading turn
+may_end StarvedStop turn Whole = may_starve turn
 may_end StarvedStop turn Missing = is_writing turn
 may_end WriteFault turn Cut = is_writing turn
 may_end cause turn _ = false
@@ -184,7 +219,7 @@ abbrev pub place_behind : List Frame → ℕ
 place_behind frames = min (length (all_spelled frames)) (2 ^ 64 - 1)
 
 -- what stands behind the frames: less than a frame, and with EndOfInput nothing more in the link; with BadBytes no frame; with OutOfTurn a frame
--- that the program may not say; with Starved some octet that wasn't read as a frame, where all was written; else nothing is said. That memory
+-- that the program may not say; with Starved some octet that wasn't read as a frame, where one was to come; else nothing is said. That memory
 -- had really run out stays free: with Starved the next frame may stand there whole
 abbrev pub Shows : LastTurn → StopCause → List ℕ → Option (List ℕ) → Type 0
 Shows at EndOfInput rest left = IsPartial rest × Empty left
@@ -192,7 +227,7 @@ Shows at ReadFault rest left = IsPartial rest
 Shows at (BadBytes place) rest left = (place ≡ place_behind at.frames) × IsMalformed rest
 Shows at (OutOfTurn kind number) rest left =
     (f : Frame) × (more : List ℕ) × Begins rest f more × (kind ≡ kind_octet f.body) × (number ≡ f.tag) × (MaySay at.name at.tag at.turn f → ⊥)
-Shows at StarvedStop rest left = at.written ≡ Whole → rest ≡ [] → ⊥
+Shows at StarvedStop rest left = at.written ≡ Whole → is_reading at.turn ≡ true → rest ≡ [] → ⊥
 Shows at cause rest left = Unit {0}
 
 -- where the link tells what it gave, it gave the frames, and what stands behind them shows the cause
@@ -234,6 +269,19 @@ cause_of server g past = cause_in (latest (stops_life server g) past)
 -- where the event ends the life, the server's queue was closed before it
 abbrev pub StopsClosed : Setup → ℕ → ℕ → Event → List Event → Type 0
 StopsClosed setup server g e before = stops_life server g e ≡ true → is_closed (queue_of setup server) before ≡ true
+
+-- where the event ends the life, the server's calls had come to their end before it
+abbrev pub StopsSpent : ℕ → ℕ → ℕ → Event → List Event → Type 0
+StopsSpent clients server g e before = stops_life server g e ≡ true → last_op (caller_of clients server) before ≡ 2 ^ 32 - 1
+
+-- the OPs to which a REPLY was due: one whose call was to be made as the life ended has none
+abbrev pub replied_of : Turn → List Frame → List Frame
+replied_of Performing ops = take (length ops - 1) ops
+replied_of turn ops = ops
+
+-- to each of these OPs a REPLY went, in order, with its tag
+abbrev pub EachReplied : Turn → List Frame → List Frame → Type 0
+EachReplied turn said sent = tags_of (replied_of turn (ops_in said)) ≡ tags_of (replies_in sent)
 
 -- a life: its server's name and number, and its generation
 pub record LifeId : Type 0 where

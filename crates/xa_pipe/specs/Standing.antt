@@ -11,13 +11,13 @@ use Rattle.xa_frame.specs.Spelling.{all_spelled}
 use Rattle.xa_events.specs.declared.event.Event.{Event}
 use Rattle.xa_events.specs.declared.event.StopCause.{StopCause}
 use Rattle.xa_events.specs.declared.event.StopCause.TheVariants.{Shutdown, Exit}
-use Rattle.xa_pipe.specs.declared.turn.Turn.TheVariants.{AwaitsInvoke}
+use Rattle.xa_pipe.specs.declared.turn.Turn.TheVariants.{AwaitsInvoke, Finishing}
 use Rattle.xa_events.specs.Words.{AtEach}
-use Rattle.xa_pipe.specs.Frames.{shutdown_frame, farewell, frames_out}
-use Rattle.xa_pipe.specs.Life.{Turn, Written, LifeId, LinkShows, LastTurn, Says, IsOf, IsCounted, Took, Gave, MayFail, AllCame, StopsClosed, cause_of, came_in, finishes_in, tag_after, may_end}
+use Rattle.xa_pipe.specs.Frames.{shutdown_frame, invokes_in, farewell, frames_out}
+use Rattle.xa_pipe.specs.Life.{Turn, Written, LifeId, LinkShows, LastTurn, Says, IsOf, IsCounted, Took, Gave, EachReplied, MayFail, AllCame, StopsClosed, StopsSpent, cause_of, came_in, finishes_in, tag_after, may_end}
 
--- what a life is: its server's name and number, its generation, what its link shows, the INVOKEs that were written to it, what its program said,
--- and what comes next
+-- what a life is: its server's name and number, its generation, what its link shows, the INVOKEs and REPLYs that were written to it, what its program
+-- said, and what comes next
 pub record LifeState : Type 0 where
   pub name : List ℕ
   pub server : ServerId
@@ -26,6 +26,10 @@ pub record LifeState : Type 0 where
   pub asked : List Frame
   pub said : List Frame
   pub turn : Turn
+
+-- the INVOKEs among these
+abbrev pub invokes_of : LifeState → List Frame
+invokes_of life = invokes_in life.asked
 
 -- how many invocations its program answered, by a RETURN or a FORWARD
 abbrev pub returned : LifeState → ℕ
@@ -42,12 +46,13 @@ id_of life = record { name = life.name; server = life.server.0; generation = lif
 abbrev pub GaveFirst : Option (List ℕ) → List Frame → Type 0
 GaveFirst gave frames = IfSome gave (λ octets. (rest : List ℕ) × (octets ≡ all_spelled frames ++ rest))
 
--- what holds of a life of whose program that became: it spoke in turn, the octets that went to it are those of the INVOKEs, those that came from it
--- begin with those of what it said, nothing failed, and its link is its own
+-- what holds of a life of whose program that became: it spoke in turn, the octets that went to it are those of the INVOKEs and REPLYs, a REPLY for each OP,
+-- those that came from it begin with those of what it said, nothing failed, and its link is its own
 pub record SoundWith (became : Fate) (life : LifeState) : Type 0 where
   pub says : Says life.name (returned life) life.said life.turn
   pub took : IfSome life.link.took (λ octets. octets ≡ all_spelled life.asked)
   pub gave : GaveFirst life.link.gave life.said
+  pub replied : EachReplied life.turn life.said life.asked
   pub reads : life.link.reads ≡ 0
   pub writes : life.link.writes ≡ 0
   pub whose : IsOf (id_of life) life.link.program.whose
@@ -109,6 +114,7 @@ pub record IsOver (over : Ending) : Type 0 where
   pub says : Says over.life.name (returned over.life) over.life.said over.life.turn
   pub may : may_end over.cause over.life.turn over.written ≡ true
   pub took : IfSome over.life.link.took (Took over.written (due_in over.life.turn over.life.asked))
+  pub replied : EachReplied over.life.turn over.life.said over.life.asked
   pub gave : Gave (last_turn over) over.cause over.life.link.gave over.life.link.left
   pub counted : IsCounted over.cause over.life.link.reads over.life.link.writes
   pub whose : IsOf (id_of over.life) over.life.link.program.whose
@@ -116,11 +122,13 @@ pub record IsOver (over : Ending) : Type 0 where
   pub left_open : over.left_open ≡ is_open over.cause
   pub fate : HasFate (fate_by over.cause) over.life.link.program
 
--- how a life that ended went and why it ended, by its events, in a domain of so many clients: they have its cause, the INVOKEs that were due to it, and
--- SHUTDOWN where it ended so, and what its RETURNs and FORWARDs came to; and where it waited for a request, its queue was closed
+-- how a life that ended went and why it ended, by its events, in a domain of so many clients: they have its cause, the INVOKEs and REPLYs that were due
+-- to it, and SHUTDOWN where it ended so, and what its RETURNs and FORWARDs came to; where it waited for a request, its queue was closed; and where it
+-- could call no more, its server had made its last call
 pub record IsLife (setup : Setup) (clients : ℕ) (past : List Event) (over : Ending) : Type 0 where
   pub over_is : IsOver over
   pub stopped : cause_of over.life.server.0 over.life.generation.0 past ≡ Some over.cause
-  pub asked : frames_out over.life.server.0 over.life.generation.0 past ≡ over.life.asked ++ farewell over.cause
+  pub asked : frames_out clients over.life.server.0 over.life.generation.0 past ≡ over.life.asked ++ farewell over.cause
   pub came : AllCame setup (MayFail setup clients) over.cause over.life.turn (finishes_in over.life.said) (came_in over.life.server.0 over.life.generation.0 past)
   pub closed : over.life.turn ≡ AwaitsInvoke → AtEach (StopsClosed setup over.life.server.0 over.life.generation.0) past
+  pub spent : over.life.turn ≡ Finishing → AtEach (StopsSpent clients over.life.server.0 over.life.generation.0) past

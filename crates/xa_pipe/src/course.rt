@@ -7,9 +7,9 @@ ghost use Rattle.xa_pipe.specs.Pipe.{HasRead, Ceases, CountsReads, shown};
 ghost use Rattle.xa_pipe.specs.Changes.{turn_after};
 ghost use Rattle.xa_pipe.specs.Ended.{pipes_show, are_killed, are_open};
 ghost use Rattle.xa_pipe.specs.Standing.{IsSound, IsOver, cut_short, is_killed, is_open};
-ghost use Rattle.xa_pipe.specs.Kept.{standing_of, ending_of, left_by, tag_after_turn};
+ghost use Rattle.xa_pipe.specs.Kept.{standing_of, ending_of, left_by, tag_behind};
 
-use crate::hearing::{is_finish, is_next, is_ready, out_of_turn};
+use crate::hearing::{is_act, is_finish, is_next, is_ready, out_of_turn};
 use crate::noted::{Asked, Said};
 use crate::over::{CutLife, EndedLife, Pipes};
 use crate::pipe::Pipe;
@@ -40,8 +40,9 @@ fn may_say(frame: &Frame, name: &Name, tag: u32, turn: Turn) -> bool
     match turn {
         Turn::AwaitsReady => is_ready(frame, name),
         Turn::AwaitsNext => is_next(frame),
-        Turn::Serving => is_finish(frame, tag),
-        Turn::AwaitsInvoke | Turn::Exited => false,
+        Turn::Serving => is_act(frame, tag),
+        Turn::Finishing => is_finish(frame, tag),
+        Turn::AwaitsInvoke | Turn::Performing | Turn::Exited => false,
     }
 }
 
@@ -62,18 +63,19 @@ fn turn_after(turn: Turn, body: &Body) -> Turn
     match (turn, body) {
         (Turn::AwaitsReady, _) => Turn::AwaitsNext,
         (Turn::AwaitsNext, _) => Turn::AwaitsInvoke,
-        (Turn::Serving, Body::Return(value, _, _)) => turn_behind(*value),
-        (Turn::Serving, Body::Forward(..)) => Turn::AwaitsNext,
+        (Turn::Serving | Turn::Finishing, Body::Return(value, _, _)) => turn_behind(*value),
+        (Turn::Serving | Turn::Finishing, Body::Forward(..)) => Turn::AwaitsNext,
+        (Turn::Serving, Body::Op(_)) => Turn::Performing,
         (turn, _) => turn,
     }
 }
 
 // The number of the next INVOKE behind what the program said.
-fn tag_after(turn: Turn, tag: u32) -> u32
-    ensures { result ≡ tag_after_turn turn tag }
+fn tag_after(body: &Body, tag: u32) -> u32
+    ensures { result ≡ tag_behind body.now tag }
 {
-    match turn {
-        Turn::Serving => tag.wrapping_add(1),
+    match body {
+        Body::Return(..) | Body::Forward(..) => tag.wrapping_add(1),
         _ => tag,
     }
 }
@@ -101,10 +103,10 @@ impl<L: Link> Course<L> {
 
     /// The program said that frame.
     pub fn note(&mut self, frame: &Frame)
-        ensures { self.new ≡ record self.old { said = self.old.said ++ frame.now ∷ []; turn = turn_after self.old.turn frame.now.body; tag = tag_after_turn self.old.turn self.old.tag } }
+        ensures { self.new ≡ record self.old { said = self.old.said ++ frame.now ∷ []; turn = turn_after self.old.turn frame.now.body; tag = tag_behind frame.now.body self.old.tag } }
     {
         self.said.note(frame);
-        self.tag = tag_after(self.turn, self.tag);
+        self.tag = tag_after(&frame.body, self.tag);
         self.turn = turn_after(self.turn, &frame.body);
     }
 

@@ -2,17 +2,17 @@
 ghost use Rattle.std.specs.Prelude.{◌≡◌, ◌++◌, ◌∷◌, [], ℕ, List, IfOk, IfErr, OnOk, true, false};
 ghost use Rattle.xa_frame.specs.declared.frame.Frame.{Frame};
 ghost use Rattle.xa_frame.specs.Spelling.{HasSpelling, kind_octet};
-ghost use Rattle.xa_pipe.specs.Frames.{ready_frame, next_frame, finish_frame};
+ghost use Rattle.xa_pipe.specs.Frames.{ready_frame, next_frame, act_frame, may_call};
 ghost use Rattle.xa_events.specs.declared.event.StopCause.TheVariants.{OutOfTurn};
 ghost use Rattle.xa_pipe.specs.Life.{MaySay, awaiting};
-ghost use Rattle.xa_pipe.specs.declared.turn.Turn.TheVariants.{AwaitsReady, AwaitsNext, Serving};
+ghost use Rattle.xa_pipe.specs.declared.turn.Turn.TheVariants.{AwaitsReady, AwaitsNext, Serving, Finishing};
 ghost use Rattle.xa_pipe.specs.Pipe.{HasRead, Ceases, CutOff, CountsReads};
 
 use crate::pipe::Pipe;
 use xa_events::StopCause;
 use xa_frame::{Body, Frame, kind_octet};
 use xa_link::Link;
-use xa_types::{Data, Name, Octets, Rval};
+use xa_types::{Data, Name, Octets, Op, Rval};
 
 /// What a service returned: how, with which code, and with which data.
 #[derive(Drop)]
@@ -34,6 +34,13 @@ pub struct Forward {
 pub enum Finish {
     Returns(Return),
     Forwards(Forward),
+}
+
+/// How a service goes on with its request: it makes a call, or is done.
+#[derive(Drop)]
+pub enum Act {
+    Calls(Op),
+    Ends(Finish),
 }
 
 pub(crate) fn out_of_turn(frame: &Frame) -> StopCause
@@ -62,11 +69,31 @@ pub(crate) fn is_next(frame: &Frame) -> bool
     }
 }
 
+// Whether the frame is the RETURN or the FORWARD of that invocation.
 pub(crate) fn is_finish(frame: &Frame, number: u32) -> bool
+    ensures yes { result ≡ true → MaySay [] number Finishing frame.now }
+    ensures no { result ≡ false → MaySay [] number Finishing frame.now → ⊥ }
+{
+    match &frame.body {
+        Body::Return(..) | Body::Forward(..) => frame.tag == number,
+        _ => false,
+    }
+}
+
+/// Whether a service may make the call: a tpcall, or one that sets the priority of its next request.
+pub fn may_call(op: &Op) -> bool
+    ensures { result ≡ may_call op.now }
+{
+    matches!(op, Op::Call(_) | Op::Priority(..))
+}
+
+// Whether it is that, or an OP of that invocation by which a service may make a call.
+pub(crate) fn is_act(frame: &Frame, number: u32) -> bool
     ensures yes { result ≡ true → MaySay [] number Serving frame.now }
     ensures no { result ≡ false → MaySay [] number Serving frame.now → ⊥ }
 {
     match &frame.body {
+        Body::Op(op) => frame.tag == number && may_call(op),
         Body::Return(..) | Body::Forward(..) => frame.tag == number,
         _ => false,
     }
@@ -96,31 +123,35 @@ fn next_in(frame: &Frame) -> Result<(), StopCause>
     }
 }
 
-// How a service is done by a RETURN or a FORWARD.
-pub(crate) fn finished(frame: Frame) -> Finish
+// How a service goes on by an OP, a RETURN or a FORWARD.
+pub(crate) fn acted(frame: Frame) -> Act
     requires { MaySay [] frame.tag Serving frame }
-    ensures { frame ≡ finish_frame frame.tag result }
+    ensures { frame ≡ act_frame frame.tag result }
 {
     let Frame { tag: _, body } = frame;
     match body {
-        Body::Return(value, code, payload) => Finish::Returns(Return {
+        Body::Op(op) => Act::Calls(op),
+        Body::Return(value, code, payload) => Act::Ends(Finish::Returns(Return {
             value,
             code,
             payload,
-        }),
-        Body::Forward(service, payload) => Finish::Forwards(Forward { service, payload }),
+        })),
+        Body::Forward(service, payload) => {
+            Act::Ends(Finish::Forwards(Forward { service, payload }))
+        }
         _ => unreachable!(),
     }
 }
 
-// How a service is done with that invocation, where the frame is a RETURN or a FORWARD to it; else it is out of turn.
-fn finish_in(frame: Frame, number: u32) -> Result<Finish, StopCause>
-    ensures yes { IfOk result (λ back. frame ≡ finish_frame number back) }
+// How a service goes on with that invocation, where the frame is an OP that it may make, a RETURN or a FORWARD of it;
+// else it is out of turn.
+fn act_in(frame: Frame, number: u32) -> Result<Act, StopCause>
+    ensures yes { IfOk result (λ act. frame ≡ act_frame number act) }
     ensures no { IfErr result (λ cause. (cause ≡ OutOfTurn (kind_octet frame.body) frame.tag)
         × ((name : List ℕ) → MaySay name number Serving frame → ⊥)) }
 {
-    if is_finish(&frame, number) {
-        return Ok(finished(frame));
+    if is_act(&frame, number) {
+        return Ok(acted(frame));
     }
     let cause = out_of_turn(&frame);
     drop(frame);
@@ -177,11 +208,11 @@ impl<L: Link> Pipe<L> {
         next
     }
 
-    /// Reads the RETURN or the FORWARD to that invocation. Else it answers why the life ended, as `greet` does.
-    pub fn hear(&mut self, number: u32) -> Result<Finish, StopCause>
-        ensures read { IfOk result (λ back. (frames : List Frame) → HasRead self.old frames
-            → HasRead self.new (frames ++ finish_frame number back ∷ [])) }
-        ensures spelling { IfOk result (λ back. HasSpelling (finish_frame number back)) }
+    /// Reads the OP, the RETURN or the FORWARD of that invocation. Else it answers why the life ended, as `greet` does.
+    pub fn hear(&mut self, number: u32) -> Result<Act, StopCause>
+        ensures read { IfOk result (λ act. (frames : List Frame) → HasRead self.old frames
+            → HasRead self.new (frames ++ act_frame number act ∷ [])) }
+        ensures spelling { IfOk result (λ act. HasSpelling (act_frame number act)) }
         ensures took { self.new.took ≡ self.old.took }
         ensures writes { self.new.writes ≡ self.old.writes }
         ensures program { self.new.program ≡ self.old.program }
@@ -190,6 +221,6 @@ impl<L: Link> Pipe<L> {
         ensures counts { IfErr result (λ cause. CountsReads cause self.old.reads self.new.reads) }
     {
         let frame = self.read()?;
-        finish_in(frame, number)
+        act_in(frame, number)
     }
 }

@@ -1,16 +1,16 @@
 // A life of a server: the monitor's end of it.
 ghost use Rattle.std.specs.Prelude.{◌≡◌, IfOk, IfErr, true};
 ghost use Rattle.xa_link.specs.Links.{IsFresh};
-ghost use Rattle.xa_frame.specs.Spelling.{IsData};
-ghost use Rattle.xa_pipe.specs.Frames.{ready_frame, next_frame, finish_frame};
-ghost use Rattle.xa_pipe.specs.Life.{is_reading};
+ghost use Rattle.xa_frame.specs.Spelling.{IsData, IsAnswer, IsReply};
+ghost use Rattle.xa_pipe.specs.Frames.{ready_frame, next_frame, act_frame, reply_frame, answer_frame};
+ghost use Rattle.xa_pipe.specs.Life.{is_reading, is_acting};
 ghost use Rattle.xa_pipe.specs.Standing.{IsSound, cut_short, tag_of};
 ghost use Rattle.xa_pipe.specs.Kept.{unwritten};
 ghost use Rattle.xa_frame.specs.declared.frame.Frame.{Frame};
-ghost use Rattle.xa_pipe.specs.Changes.{begun, Heard, Fell, Greeted, FellGreeting, next_invoke, Invoked, Unsent, ShutDown, Exits};
+ghost use Rattle.xa_pipe.specs.Changes.{begun, Heard, Fell, Greeted, FellGreeting, next_invoke, spent, Invoked, Unsent, Starves, ShutDown, Exits};
 
 use crate::course::Course;
-use crate::hearing::{Finish, finished};
+use crate::hearing::{Act, acted};
 use crate::noted::{Asked, Said};
 use crate::over::{CutLife, EndedLife};
 use crate::pipe::Pipe;
@@ -20,7 +20,7 @@ use std::marker::Model;
 use xa_events::StopCause;
 use xa_frame::Frame;
 use xa_link::Link;
-use xa_types::{Data, Generation, Name, ServerId};
+use xa_types::{Answer, Data, Generation, Name, Reply, ServerId};
 
 /// A life of a server that goes on. A call by which it may end takes it, and gives back the life or what is left of it; so
 /// a life that has failed can't be left running.
@@ -39,10 +39,10 @@ impl<L: Link> Model for Life<L> {
     ghost invariant = { λ l. IsKept l.course };
 }
 
-/// A life whose service is done with its request, and how.
-pub struct Answered<L: Link> {
+/// A life whose service goes on with its request, and how.
+pub struct Acted<L: Link> {
     pub life: Life<L>,
-    pub back: Finish,
+    pub act: Act,
 }
 
 // A life whose program said something.
@@ -131,15 +131,69 @@ impl<L: Link> Life<L> {
         self.skip()
     }
 
-    /// Reads the RETURN or the FORWARD to the request in hand. Else the life ends.
-    pub fn hear(self) -> Result<Answered<L>, EndedLife<L>>
+    /// Its server's calls have come to their end: an OP would be out of turn from now on.
+    pub fn spend(self) -> Life<L>
         requires { self.turn ≡ Turn.Serving }
-        ensures heard { IfOk result (λ a. Heard (finish_frame (tag_of self) a.back) a.life self) }
+        ensures { result ≡ spent self }
+    {
+        let Life { mut course } = self;
+        course.turn = Turn::Finishing;
+        Life { course }
+    }
+
+    /// Reads the OP, the RETURN or the FORWARD of the request in hand; behind `spend` no OP. Else the life ends.
+    pub fn hear(self) -> Result<Acted<L>, EndedLife<L>>
+        requires { is_acting self.turn ≡ true }
+        ensures heard { IfOk result (λ a. Heard (act_frame (tag_of self) a.act) a.life self) }
         ensures over { IfErr result (λ over. Fell over self) }
     {
         let Spoken { life, frame } = self.listen()?;
-        let back = finished(frame);
-        Ok(Answered { life, back })
+        let act = acted(frame);
+        Ok(Acted { life, act })
+    }
+
+    /// Sends the REPLY to the call that was made. Else the life ends, as `send` says.
+    pub fn reply(self, reply: &Reply) -> Result<Life<L>, EndedLife<L>>
+        requires turn { self.turn ≡ Turn.Performing }
+        requires reply { IsReply reply.now }
+        ensures sent { IfOk result (λ life. Invoked (reply_frame (tag_of self) reply.now) life self) }
+        ensures over { IfErr result (λ over. Unsent (reply_frame (tag_of self) reply.now) over self) }
+    {
+        let Life { mut course } = self;
+        let sent = course.pipe.reply(course.tag, reply);
+        course.asked.note_reply(course.tag, reply);
+        course.turn = Turn::Serving;
+        match sent {
+            Ok(()) => Ok(Life { course }),
+            Err(cause) => Err(course.end(cause, unwritten(cause))),
+        }
+    }
+
+    /// Sends the REPLY with that answer to the call that was made; the answer stays with the caller. Else the life ends, as
+    /// `send` says.
+    pub fn reply_answer(self, descriptor: u64, answer: &Answer) -> Result<Life<L>, EndedLife<L>>
+        requires turn { self.turn ≡ Turn.Performing }
+        requires answer { IsAnswer answer.now }
+        ensures sent { IfOk result (λ life. Invoked (answer_frame (tag_of self) descriptor answer.now) life self) }
+        ensures over { IfErr result (λ over. Unsent (answer_frame (tag_of self) descriptor answer.now) over self) }
+    {
+        let Life { mut course } = self;
+        let sent = course.pipe.answer(course.tag, descriptor, answer);
+        course.asked.note_answer(course.tag, descriptor, answer);
+        course.turn = Turn::Serving;
+        match sent {
+            Ok(()) => Ok(Life { course }),
+            Err(cause) => Err(course.end(cause, unwritten(cause))),
+        }
+    }
+
+    /// The life ends by Starved: memory ran out before the call was made.
+    pub fn starve(self) -> EndedLife<L>
+        requires { self.turn ≡ Turn.Performing }
+        ensures { Starves result self }
+    {
+        let Life { course } = self;
+        course.end(StopCause::Starved, Written::Whole)
     }
 
     /// Sends a request to that routine of that service, with the next number. Its data has at most 65,536 octets. Else the
@@ -158,7 +212,9 @@ impl<L: Link> Life<L> {
     {
         let Life { mut course } = self;
         let sent = course.pipe.send(service, routine, course.tag, payload);
-        course.asked.note(service, routine, course.tag, payload);
+        course
+            .asked
+            .note_invoke(service, routine, course.tag, payload);
         course.turn = Turn::Serving;
         match sent {
             Ok(()) => Ok(Life { course }),

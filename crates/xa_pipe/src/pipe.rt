@@ -2,18 +2,20 @@ ghost use Rattle.std.specs.Prelude.{◌≡◌, ◌++◌, ◌∷◌, ◌+◌, ◌
 ghost use Rattle.xa_link.specs.Links.{killed, closed};
 ghost use Rattle.xa_link.specs.Told.{Rose, Grew, GrewByPart, Empty};
 ghost use Rattle.xa_frame.specs.declared.frame.Frame.{Frame};
-ghost use Rattle.xa_frame.specs.Spelling.{spelled, HasSpelling, IsData};
+ghost use Rattle.xa_frame.specs.Spelling.{spelled, HasSpelling, IsData, IsAnswer, IsReply};
 ghost use Rattle.xa_events.specs.declared.event.StopCause.TheVariants.{Starved, WriteFault};
 ghost use Rattle.xa_frame.specs.Stream.{IsPartial};
-ghost use Rattle.xa_pipe.specs.Frames.{shutdown_frame};
+ghost use Rattle.xa_pipe.specs.Frames.{shutdown_frame, reply_frame, answer_frame};
 ghost use Rattle.xa_pipe.specs.Pipe.{invoke_frame, Wrote, HasRead, ended_by, Keeps, ReadsNone, CountsReads, CountsWrites, shown};
 
 use std::alloc::Global;
 use std::marker::Model;
 use xa_events::StopCause;
-use xa_frame::{Body, Frame, NextRefused, Reader, append, append_invoke};
+use xa_frame::{
+    Body, Frame, NextRefused, Reader, append, append_answer, append_invoke, append_reply,
+};
 use xa_link::{Closed, Link, put};
-use xa_types::{Data, Mode, Name, NoMemory};
+use xa_types::{Answer, Data, Mode, Name, NoMemory, Reply};
 
 // How many octets a read takes at most, and how many of them one takes behind which fewer octets than that wait.
 const PIECE: usize = 8192;
@@ -134,6 +136,48 @@ impl<L: Link> Pipe<L> {
             payload,
         );
         let Ok(()) = sent else {
+            return Err(StopCause::Starved);
+        };
+        write(&mut self.link, &self.due)
+    }
+
+    /// Sends the REPLY to a call of the invocation of that number. It fails as `send` does.
+    pub fn reply(&mut self, number: u32, reply: &Reply) -> Result<(), StopCause>
+        requires { IsReply reply.now }
+        ensures took { OnOk result (Grew self.old.took self.new.took (spelled (reply_frame number reply.now))) }
+        ensures part { result ≡ Err WriteFault → GrewByPart self.old.took self.new.took (spelled (reply_frame number reply.now)) }
+        ensures starved { result ≡ Err Starved → self.new.took ≡ self.old.took }
+        ensures gave { self.new.gave ≡ self.old.gave }
+        ensures rest { self.new.rest ≡ self.old.rest }
+        ensures place { self.new.place ≡ self.old.place }
+        ensures reads { self.new.reads ≡ self.old.reads }
+        ensures program { self.new.program ≡ self.old.program }
+        ensures well { OnOk result (self.new.writes ≡ self.old.writes) }
+        ensures why { IfErr result (λ cause. CountsWrites cause self.old.writes self.new.writes) }
+    {
+        self.due.clear();
+        let Ok(()) = append_reply(&mut self.due, number, reply) else {
+            return Err(StopCause::Starved);
+        };
+        write(&mut self.link, &self.due)
+    }
+
+    /// Sends the REPLY with that answer to a call of the invocation of that number. It fails as `send` does.
+    pub fn answer(&mut self, number: u32, descriptor: u64, answer: &Answer) -> Result<(), StopCause>
+        requires { IsAnswer answer.now }
+        ensures took { OnOk result (Grew self.old.took self.new.took (spelled (answer_frame number descriptor answer.now))) }
+        ensures part { result ≡ Err WriteFault → GrewByPart self.old.took self.new.took (spelled (answer_frame number descriptor answer.now)) }
+        ensures starved { result ≡ Err Starved → self.new.took ≡ self.old.took }
+        ensures gave { self.new.gave ≡ self.old.gave }
+        ensures rest { self.new.rest ≡ self.old.rest }
+        ensures place { self.new.place ≡ self.old.place }
+        ensures reads { self.new.reads ≡ self.old.reads }
+        ensures program { self.new.program ≡ self.old.program }
+        ensures well { OnOk result (self.new.writes ≡ self.old.writes) }
+        ensures why { IfErr result (λ cause. CountsWrites cause self.old.writes self.new.writes) }
+    {
+        self.due.clear();
+        let Ok(()) = append_answer(&mut self.due, number, descriptor, answer) else {
             return Err(StopCause::Starved);
         };
         write(&mut self.link, &self.due)

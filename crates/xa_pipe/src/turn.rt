@@ -9,8 +9,12 @@ pub enum Turn {
     AwaitsNext,
     /// An INVOKE or SHUTDOWN of the monitor.
     AwaitsInvoke,
-    /// A RETURN or a FORWARD of the program.
+    /// A RETURN or a FORWARD of the program, or an OP.
     Serving,
+    /// A RETURN or a FORWARD of the program: its server's calls have come to their end.
+    Finishing,
+    /// A call of the service, and the REPLY of the monitor.
+    Performing,
     /// Nothing more, after a RETURN with TPEXIT.
     Exited,
 }

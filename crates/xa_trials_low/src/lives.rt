@@ -1,14 +1,16 @@
 //! Lives over links in memory: how each ends, and what is left of its pipes.
 ghost use Rattle.std.specs.Prelude.{◌≡◌};
-ghost use Rattle.xa_pipe.specs.declared.turn.Turn.TheVariants.{AwaitsReady};
+ghost use Rattle.xa_pipe.specs.declared.turn.Turn.TheVariants.{AwaitsReady, Serving};
+ghost use Rattle.xa_pipe.specs.Frames.{finish_frame};
+ghost use Rattle.xa_pipe.specs.Changes.{turn_after};
 
 use crate::memory::{joined, link_of, setup_of};
 use crate::rows::none_fails;
 use std::alloc::Global;
 use xa_events::StopCause;
 use xa_link::{Link, MemoryLink, MemoryYard, Starter, Yard};
-use xa_pipe::{Answered, EndedLife, Finish, Life, Pipes};
-use xa_types::{Data, Generation, Name, Rval, ServerId};
+use xa_pipe::{Act, Acted, EndedLife, Finish, Life, Pipes};
+use xa_types::{Answer, Data, Fault, Generation, Name, Reply, Rval, ServerId};
 
 const READY: &[u8] = b"XA\x01\x01\0\0\0\x02\0\0\0\0\x01S";
 
@@ -28,6 +30,11 @@ const LATER: &[u8] = b"XA\x01\x05\0\0\0\x04\0\0\0\x02\x02TO\0";
 
 const UNTAGGED: &[u8] = b"XA\x01\x05\0\0\0\x04\0\0\0\0\x02TO\0";
 
+// An OP of the first invocation, tpunadvertise of A, and one of the second.
+const OP: &[u8] = b"XA\x01\x03\0\0\0\x03\0\0\0\x01\x0c\x01A";
+
+const LATER_OP: &[u8] = b"XA\x01\x03\0\0\0\x03\0\0\0\x02\x0c\x01A";
+
 // What is left of the pipes of a life that ended.
 #[derive(Clone, Copy, PartialEq, Eq)]
 enum Left {
@@ -40,7 +47,7 @@ enum Left {
 // what is left of its pipes.
 type Course = (&'static [&'static [u8]], [u64; 2], StopCause, Left);
 
-static COURSES: [Course; 24] = [
+static COURSES: [Course; 33] = [
     (
         &[READY, NEXT, RETURN, NEXT],
         [0, 0],
@@ -174,23 +181,108 @@ static COURSES: [Course; 24] = [
         StopCause::OutOfTurn(0x05, 1),
         Left::Killed,
     ),
+    // with an OP, and with two, of which the second needn't wait for the REPLY to the first
+    (
+        &[READY, NEXT, OP, RETURN, NEXT],
+        [0, 0],
+        StopCause::Shutdown,
+        Left::Open,
+    ),
+    (
+        &[READY, NEXT, OP, OP, FORWARD, NEXT],
+        [0, 0],
+        StopCause::Shutdown,
+        Left::Open,
+    ),
+    // where memory runs out before the third call
+    (
+        &[READY, NEXT, OP, OP, OP],
+        [0, 0],
+        StopCause::Starved,
+        Left::Killed,
+    ),
+    // cut between OP and REPLY, and behind that
+    (
+        &[READY, NEXT, OP, RETURN, NEXT],
+        [0, 2],
+        StopCause::WriteFault,
+        Left::Killed,
+    ),
+    (
+        &[READY, NEXT, OP],
+        [0, 0],
+        StopCause::EndOfInput,
+        Left::Killed,
+    ),
+    // before READY, before NEXT, behind RETURN, and with another tag
+    (&[OP], [0, 0], StopCause::OutOfTurn(0x03, 1), Left::Killed),
+    (
+        &[READY, OP],
+        [0, 0],
+        StopCause::OutOfTurn(0x03, 1),
+        Left::Killed,
+    ),
+    (
+        &[READY, NEXT, RETURN, OP],
+        [0, 0],
+        StopCause::OutOfTurn(0x03, 1),
+        Left::Killed,
+    ),
+    (
+        &[READY, NEXT, LATER_OP],
+        [0, 0],
+        StopCause::OutOfTurn(0x03, 2),
+        Left::Killed,
+    ),
 ];
 
 const ONE_SERVER: &[u8] = b"queue = [{ name = 'Q' }]
 server = [{ name = 'S', queue = 'Q' }]";
 
-// The program greets, is asked once and is shut down, or ends by itself.
-fn serve<L: Link>(life: Life<L>, service: &Name) -> Result<EndedLife<L>, EndedLife<L>>
-    requires { life.turn ≡ AwaitsReady }
+// Its request is done, and it is shut down, or ends by itself.
+fn end<L: Link>(life: Life<L>, back: Finish) -> Result<EndedLife<L>, EndedLife<L>>
+    requires { life.turn ≡ turn_after Serving (finish_frame 0 back).body }
 {
-    let life = life.greet()?.send(service, service, &Data::Absent)?;
-    let Answered { life, back } = life.hear()?;
     match back {
         Finish::Returns(back) => match back.value {
             Rval::Exit => Ok(life.exit()),
             Rval::Success | Rval::Fail => Ok(life.read_next()?.shut_down()),
         },
         Finish::Forwards(_) => Ok(life.read_next()?.shut_down()),
+    }
+}
+
+// Behind its second call no further one can be made.
+fn call_last<L: Link>(life: Life<L>) -> Result<EndedLife<L>, EndedLife<L>>
+    requires { life.turn ≡ Serving }
+{
+    let Acted { life, act } = life.hear()?;
+    match act {
+        Act::Ends(back) => end(life, back),
+        Act::Calls(_) => Ok(life.starve()),
+    }
+}
+
+// Its second call is answered with an error.
+fn call_again<L: Link>(life: Life<L>) -> Result<EndedLife<L>, EndedLife<L>>
+    requires { life.turn ≡ Serving }
+{
+    let Acted { life, act } = life.hear()?;
+    match act {
+        Act::Ends(back) => end(life, back),
+        Act::Calls(_) => call_last(life.reply_answer(0, &Answer::Error(Fault::NoEnt))?),
+    }
+}
+
+// The program greets, is asked once and is shut down, or ends by itself; its first call is done.
+fn serve<L: Link>(life: Life<L>, service: &Name) -> Result<EndedLife<L>, EndedLife<L>>
+    requires { life.turn ≡ AwaitsReady }
+{
+    let life = life.greet()?.send(service, service, &Data::Absent)?;
+    let Acted { life, act } = life.hear()?;
+    match act {
+        Act::Ends(back) => end(life, back),
+        Act::Calls(_) => call_again(life.reply(&Reply::Done)?),
     }
 }
 

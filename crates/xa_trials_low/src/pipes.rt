@@ -4,7 +4,7 @@ use crate::rows::none_fails;
 use std::alloc::Global;
 use xa_events::StopCause;
 use xa_link::{Link, MemoryLink};
-use xa_pipe::{Finish, Pipe};
+use xa_pipe::{Act, Finish, Pipe};
 use xa_types::{Data, Name};
 
 const READY: &[u8] = b"XA\x01\x01\0\0\0\x02\0\0\0\0\x01S";
@@ -19,9 +19,13 @@ const SHORT: &[u8] = b"XA\x01\x04\0\0\0\x0f\0\0\0\x01\0\0\0\0\x07\x01\0\0\0\x05"
 // A FORWARD of the first invocation to the service TO with hello.
 const FORWARD: &[u8] = b"XA\x01\x05\0\0\0\x0d\0\0\0\x01\x02TO\x01\0\0\0\x05hello";
 
-// How a service is done with its request: with that code, or by a forward to that service with these octets.
+// A tick of 1 that the first invocation asks for.
+const OP: &[u8] = b"XA\x01\x03\0\0\0\x05\0\0\0\x01\x0d\0\0\0\x01";
+
+// How a service goes on with its request: by a call, with that code, or by a forward to that service with these octets.
 #[derive(Clone, Copy)]
 enum Done {
+    Called,
     Returned(i32),
     Forwarded(&'static [u8], &'static [u8]),
 }
@@ -29,7 +33,7 @@ enum Done {
 // What the program says, the read of five octets that fails, or 0, and how its service is done or why the life ends.
 type Said = (&'static [&'static [u8]], u64, Result<Done, StopCause>);
 
-static SAID: [Said; 18] = [
+static SAID: [Said; 24] = [
     (&[READY, NEXT, RETURN, NEXT], 0, Ok(Done::Returned(7))),
     (
         &[READY, NEXT, FORWARD, NEXT],
@@ -87,10 +91,28 @@ static SAID: [Said; 18] = [
         0,
         Err(StopCause::OutOfTurn(0x04, 1)),
     ),
+    (&[READY, NEXT, OP, NEXT], 0, Ok(Done::Called)),
     (
-        &[READY, NEXT, b"XA\x01\x03\0\0\0\x05\0\0\0\x01\x0d\0\0\0\x01"],
+        &[READY, NEXT, OP, RETURN],
+        0,
+        Err(StopCause::OutOfTurn(0x04, 1)),
+    ),
+    (
+        &[READY, NEXT, RETURN, OP],
         0,
         Err(StopCause::OutOfTurn(0x03, 1)),
+    ),
+    (&[READY, OP], 0, Err(StopCause::OutOfTurn(0x03, 1))),
+    (&[OP], 0, Err(StopCause::OutOfTurn(0x03, 1))),
+    (
+        &[READY, NEXT, b"XA\x01\x03\0\0\0\x05\0\0\0\x02\x0d\0\0\0\x01"],
+        0,
+        Err(StopCause::OutOfTurn(0x03, 2)),
+    ),
+    (
+        &[READY, NEXT, b"XA\x01\x03\0\0\0\x05\0\0\0\x01\x0e\0\0\0\x01"],
+        0,
+        Err(StopCause::BadBytes(26)),
     ),
     (
         &[READY, NEXT, b"XA\x01\x05\0\0\0\x04\0\0\0\x02\x02TO\0"],
@@ -99,21 +121,22 @@ static SAID: [Said; 18] = [
     ),
 ];
 
-fn talk<L: Link>(pipe: &mut Pipe<L>, server: &Name) -> Result<Finish, StopCause> {
+fn talk<L: Link>(pipe: &mut Pipe<L>, server: &Name) -> Result<Act, StopCause> {
     pipe.greet(server)?;
-    let back = pipe.hear(1)?;
+    let act = pipe.hear(1)?;
     pipe.read_next()?;
-    Ok(back)
+    Ok(act)
 }
 
 fn is_octets(data: &Data, octets: &[u8]) -> bool {
     matches!(data, Data::Octet(held) if held.slice() == octets)
 }
 
-fn is_done(back: &Finish, want: Done) -> bool {
-    match (back, want) {
-        (Finish::Returns(back), Done::Returned(code)) => back.code == code,
-        (Finish::Forwards(forward), Done::Forwarded(service, octets)) => {
+fn is_done(act: &Act, want: Done) -> bool {
+    match (act, want) {
+        (Act::Calls(_), Done::Called) => true,
+        (Act::Ends(Finish::Returns(back)), Done::Returned(code)) => back.code == code,
+        (Act::Ends(Finish::Forwards(forward)), Done::Forwarded(service, octets)) => {
             forward.service.slice() == service && is_octets(&forward.payload, octets)
         }
         _ => false,
@@ -131,7 +154,7 @@ fn hears(pipe: &mut Pipe<MemoryLink>, want: Result<Done, StopCause>) -> bool {
         return false;
     };
     match (talk(pipe, &server), want) {
-        (Ok(back), Ok(done)) => is_done(&back, done),
+        (Ok(act), Ok(done)) => is_done(&act, done),
         (Err(cause), Err(other)) => cause == other,
         _ => false,
     }

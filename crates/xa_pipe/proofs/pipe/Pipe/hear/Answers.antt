@@ -10,7 +10,7 @@ returns-in_err-frame-clause-why g c =
 
 pub returns-clause-why : goal.returns-clause-why
 returns-clause-why g c =
-    err_more c.finish_in.result _ _
+    err_more c.act_in.result _ _
     (λ cause refused name frames read.
     ceases_other name c.args.number Serving frames c.read.new.self cause c.in_ok-frame.frame refused.0 refl c.in_ok-frame.ensures.spelling (refused.1 name) (c.in_ok-frame.ensures.frame frames read))
-    c.finish_in.ensures.no
+    c.act_in.ensures.no
