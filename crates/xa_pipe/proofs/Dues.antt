@@ -1,10 +1,10 @@
 -- What was due to the program of a life by its server's events, and how that grows.
 use Rattle.std.proofs.Common.{◌≡◌, ℕ, zero, suc, ◌+◌, ◌%◌, ◌^◌, ◌==◌, ◌&&◌, not, Bool, true, false, List, [], ◌∷◌, ◌++◌, length, Option, Some, None, refl, sym, ◌∙◌, ap, append-nil, eq-eqb, eqb-true, arith}
 use Rattle.std.specs.Prelude.{cond, take, drop, map, nat_lt, if◌then◌else◌}
-use Rattle.std.specs.List.{filter}
+use Rattle.std.specs.List.{All, filter}
 use Rattle.std.proofs.lemmas.Bool.{and_parts}
 use Rattle.std.proofs.lemmas.List.{length-append}
-use Rattle.std.proofs.lemmas.List.Elements.{filter-append}
+use Rattle.std.proofs.lemmas.List.Elements.{All-head, All-tail, filter-append}
 use Rattle.xa_types.specs.declared.reply.Reply.{Reply as Told}
 use Rattle.xa_types.specs.declared.reply.Reply.TheVariants.{Answered}
 use Rattle.xa_frame.specs.declared.frame.Frame.{Frame}
@@ -244,6 +244,23 @@ module _ (clients server g : ℕ) where
       ∙ ap (λ (reply : Told). due_in_life clients server g own ++ told_by (is_busy_in g (doing server own)) own reply) (sym (newest_told n e (a ∷ own) is))
   due_calls n [] own are none = absurd are
   due_calls n (e ∷ a ∷ b ∷ more) own are none = absurd are
+
+module _ (clients server g : ℕ) where
+  -- events of other lives that are of no call tell nothing in the life
+  pub due_beside : (more own : List Event) → All (λ (e : Event). is_of server g e ≡ false) more → All (λ (e : Event). is_call_of (caller_of clients server) e ≡ false) more
+      → due_in_life clients server g (more ++ own) ≡ due_in_life clients server g own
+  due_beside [] own others idle = refl
+  due_beside (e ∷ more) own others idle =
+      due_idle clients server g e (more ++ own) (All-head (λ (x : Event). is_of server g x ≡ false) e more others) (All-head (λ (x : Event). is_call_of (caller_of clients server) x ≡ false) e more idle)
+      ∙ due_beside more own (All-tail (λ (x : Event). is_of server g x ≡ false) e more others) (All-tail (λ (x : Event). is_call_of (caller_of clients server) x ≡ false) e more idle)
+
+  -- nor does a new call that was made in another life
+  pub due_elsewhere : (n : ℕ) (more own : List Event) → AreCall (caller_of clients server) n more → count (is_op (caller_of clients server) n) own ≡ 0 → is_busy_in g (doing server own) ≡ false
+      → due_in_life clients server g (more ++ own) ≡ due_in_life clients server g own
+  due_elsewhere n more own are none other =
+      due_calls clients server g n more own are none
+      ∙ (ap (λ (busy : Bool). due_in_life clients server g own ++ (if busy then Some (reply_frame (invocation server g own) (reply_at (more ++ own) (caller_of clients server) n)) ∷ [] else [])) other
+      ∙ append-nil (due_in_life clients server g own))
 
 -- what counts no call counts the same behind one
 pub call_counts_none : (by n : ℕ) (p : Event → Bool) → ((e : Event) → is_op by n e ≡ true → p e ≡ false) → (more own : List Event) → AreCall by n more → count p (more ++ own) ≡ count p own

@@ -1,10 +1,10 @@
 -- How a worker carries the events of a life beside what it does: a step for each, and what they come to in a run.
 use Rattle.std.proofs.Common.{◌≡◌, ℕ, ◌+◌, ◌==◌, Bool, true, false, List, [], ◌∷◌, ◌++◌, length, Some, refl, sym, ◌∙◌, ap, subst, append-nil, arith}
 use Rattle.std.specs.Prelude.{cond, drop, map, Option, None, if◌then◌else◌}
-use Rattle.std.specs.List.{filter}
+use Rattle.std.specs.List.{All, filter}
 use Rattle.std.proofs.lemmas.Bool.{and_parts}
 use Rattle.std.proofs.lemmas.List.{length-append, map-append}
-use Rattle.std.proofs.lemmas.List.Elements.{filter-append}
+use Rattle.std.proofs.lemmas.List.Elements.{All-head, All-tail, filter-append}
 use Rattle.xa_types.specs.declared.setup.Setup.{Setup}
 use Rattle.xa_types.specs.declared.data.Data.{Data}
 use Rattle.xa_types.specs.declared.ids.ServerId.{ServerId}
@@ -66,6 +66,13 @@ module _ (server g : ℕ) where
   ends_idle : (e : Event) (own : List Event) → is_of server g e ≡ false → count (stops_life server g) (e ∷ own) ≡ count (stops_life server g) own
   ends_idle e own other = rw (stops_none e other) refl
 
+  -- what no event of another life changes they all leave
+  beside_same : {X : Type 0} (read : List Event → X) → ((e : Event) (past : List Event) → is_of server g e ≡ false → read (e ∷ past) ≡ read past) → (more own : List Event) → All (λ (e : Event). is_of server g e ≡ false) more
+      → read (more ++ own) ≡ read own
+  beside_same read same [] own others = refl
+  beside_same read same (e ∷ more) own others =
+      same e (more ++ own) (All-head (λ (x : Event). is_of server g x ≡ false) e more others) ∙ beside_same read same more own (All-tail (λ (x : Event). is_of server g x ≡ false) e more others)
+
   cause_idle : (e : Event) (own : List Event) → is_of server g e ≡ false → cause_of server g (e ∷ own) ≡ cause_of server g own
   cause_idle e own other = rw (stops_none e other) refl
 
@@ -89,7 +96,7 @@ module _ (server g : ℕ) where
 shape_push : (asked : List Frame) (f : Frame) → shape (asked ++ f ∷ []) ≡ shape asked ++ (if is_invoke_body f.body then None else Some f) ∷ []
 shape_push asked f = map-append (λ (h : Frame). if is_invoke_body h.body then None else Some h) asked (f ∷ [])
 
-no_invoke : (asked : List Frame) (f : Frame) → is_invoke_body f.body ≡ false → invokes_in (asked ++ f ∷ []) ≡ invokes_in asked
+pub no_invoke : (asked : List Frame) (f : Frame) → is_invoke_body f.body ≡ false → invokes_in (asked ++ f ∷ []) ≡ invokes_in asked
 no_invoke asked f other = filter-append (λ (h : Frame). is_invoke_body h.body) asked (f ∷ []) ∙ (ap (λ (fs : List Frame). invokes_in asked ++ fs) (rw other refl) ∙ append-nil (invokes_in asked))
 
 module _ (setup : Setup) (Why : Reasons) where
@@ -154,22 +161,19 @@ module _ (setup : Setup) (clients : ℕ) {Why : Reasons} where
     last = rw other old.last;
   }
 
-  -- nor do those of a new call that was made in another life
-  pub stopped_called : (over : Ending) (n : ℕ) (more own : List Event) → AreCall (caller_of clients over.life.server.0) n more → count (is_op (caller_of clients over.life.server.0) n) own ≡ 0
-      → is_busy_in over.life.generation.0 (doing over.life.server.0 own) ≡ false → HasStopped setup clients Why over own → HasStopped setup clients Why over (more ++ own)
-  stopped_called over n more own are new other old =
+  -- nor do events of other lives that tell nothing in it
+  pub stopped_beside : (over : Ending) (more own : List Event) → All (λ (e : Event). is_of over.life.server.0 over.life.generation.0 e ≡ false) more
+      → due_in_life clients over.life.server.0 over.life.generation.0 (more ++ own) ≡ due_in_life clients over.life.server.0 over.life.generation.0 own → HasStopped setup clients Why over own → HasStopped setup clients Why over (more ++ own)
+  stopped_beside over more own others due old =
       let server = over.life.server.0 in
       let g = over.life.generation.0 in
-      let caller = caller_of clients server in
       record {
-        taken = call_counts_none caller n (is_take_in server g) (call_takes_none caller n server g) more own are ∙ old.taken;
-        told = due_calls clients server g n more own are new
-            ∙ (ap (λ (busy : Bool). due_in_life clients server g own ++ (if busy then Some (reply_frame (invocation server g own) (reply_at (more ++ own) caller n)) ∷ [] else [])) other
-            ∙ (append-nil (due_in_life clients server g own) ∙ old.told));
+        taken = beside_same server g (count (is_take_in server g)) (λ e past other. taken_idle server g e past other) more own others ∙ old.taken;
+        told = due ∙ old.told;
         came = subst (λ (os : List Occurrence). AllCame setup Why over.cause over.life.turn (finishes_in over.life.said) os)
-            (sym (call_keeps caller n (came_in server g) (λ e past is. came_idle server g e past (call_of_none caller n server g e is)) more own are)) old.came;
-        stopped = call_keeps caller n (cause_of server g) (λ e past is. cause_idle server g e past (call_of_none caller n server g e is)) more own are ∙ old.stopped;
-        last = subst (EndsLast server g) (sym (call_keeps caller n (filter (is_of server g)) (λ e past is. rw (call_of_none caller n server g e is) refl) more own are)) old.last;
+            (sym (beside_same server g (came_in server g) (λ e past other. came_idle server g e past other) more own others)) old.came;
+        stopped = beside_same server g (cause_of server g) (λ e past other. cause_idle server g e past other) more own others ∙ old.stopped;
+        last = subst (EndsLast server g) (sym (beside_same server g (filter (is_of server g)) (λ e past other. rw other refl) more own others)) old.last;
       }
 
   -- ---- while the life goes on

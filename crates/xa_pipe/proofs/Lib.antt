@@ -3,6 +3,7 @@ pub mod Frames
 pub mod Ceasing
 pub mod Saying
 pub mod Replying
+pub mod Asking
 pub mod Dues
 pub mod Coming
 pub mod Taking

@@ -65,7 +65,7 @@ pub heard_replied : (name : List ℕ) (tag : ℕ) (said asked : List Frame) (tur
 heard_replied name tag said asked AwaitsReady f may each = subst (λ (g : Frame). EachReplied AwaitsNext (said ++ g ∷ []) asked) (sym may) (no_call said asked (ready_frame name) refl each)
 heard_replied name tag said asked AwaitsNext f may each = subst (λ (g : Frame). EachReplied AwaitsInvoke (said ++ g ∷ []) asked) (sym may) (no_call said asked next_frame refl each)
 heard_replied name tag said asked Serving f (inl finish) each = finish_replied tag said asked f Serving (inl refl) finish each
-heard_replied name tag said asked Serving f (inr (op, is)) each =
+heard_replied name tag said asked Serving f (inr (op, may, is)) each =
     subst (λ (g : Frame). EachReplied (turn_after Serving g.body) (said ++ g ∷ []) asked) (sym is)
     (ap tags_of (ap (λ (fs : List Frame). take (length fs - 1) fs) (ops_push said (op_frame tag op)) ∙ but_last (ops_in said) (op_frame tag op)) ∙ each)
 heard_replied name tag said asked Finishing f finish each = finish_replied tag said asked f Finishing (inr refl) finish each

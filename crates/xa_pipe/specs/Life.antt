@@ -12,7 +12,7 @@ use Rattle.xa_link.specs.Told.{Empty}
 pub use Rattle.xa_link.specs.Links.{LinkShows}
 use Rattle.xa_frame.specs.declared.frame.Frame.{Frame}
 use Rattle.xa_frame.specs.declared.frame.Body.{Body}
-use Rattle.xa_frame.specs.declared.frame.Body.TheVariants.{Return as ReturnBody, Forward as ForwardBody}
+use Rattle.xa_frame.specs.declared.frame.Body.TheVariants.{Op as OpBody, Return as ReturnBody, Forward as ForwardBody}
 use Rattle.xa_frame.specs.Spelling.{spelled, all_spelled, kind_octet, HasSpelling}
 use Rattle.xa_frame.specs.Stream.{IsPartial, IsMalformed, Begins}
 use Rattle.xa_events.specs.declared.event.Event.{Event}
@@ -274,10 +274,20 @@ StopsClosed setup server g e before = stops_life server g e ≡ true → is_clos
 abbrev pub StopsSpent : ℕ → ℕ → ℕ → Event → List Event → Type 0
 StopsSpent clients server g e before = stops_life server g e ≡ true → last_op (caller_of clients server) before ≡ 2 ^ 32 - 1
 
--- the OPs to which a REPLY was due: one whose call was to be made as the life ended has none
-abbrev pub replied_of : Turn → List Frame → List Frame
+-- of these, in order, those that were made, if they are OPs or their calls: one whose call was to be made as the life ended was not
+abbrev pub replied_of : {X : Type 0} → Turn → List X → List X
 replied_of Performing ops = take (length ops - 1) ops
 replied_of turn ops = ops
+
+-- the call that the frame asks for, if it is an OP
+abbrev pub call_in : Body → List Op
+call_in (OpBody op) = op ∷ []
+call_in body = []
+
+-- the calls that these frames ask for
+abbrev pub calls_in : List Frame → List Op
+calls_in [] = []
+calls_in (f ∷ frames) = call_in f.body ++ calls_in frames
 
 -- to each of these OPs a REPLY went, in order, with its tag
 abbrev pub EachReplied : Turn → List Frame → List Frame → Type 0

@@ -3,6 +3,7 @@ use Rattle.std.specs.Prelude.{◌≡◌, ℕ, Bool, true, false, List, [], ◌�
 use Rattle.xa_types.specs.declared.ids.ServerId.{ServerId}
 use Rattle.xa_types.specs.declared.ids.Generation.{Generation}
 use Rattle.xa_types.specs.declared.setup.Setup.{Setup}
+use Rattle.xa_types.specs.declared.call.Op.{Op}
 use Rattle.xa_link.specs.declared.link.Fate.{Fate}
 use Rattle.xa_link.specs.declared.link.Fate.TheVariants as fates
 use Rattle.xa_link.specs.Links.{HasFate, killed}
@@ -14,7 +15,7 @@ use Rattle.xa_events.specs.declared.event.StopCause.TheVariants.{Shutdown, Exit}
 use Rattle.xa_pipe.specs.declared.turn.Turn.TheVariants.{AwaitsInvoke, Finishing}
 use Rattle.xa_events.specs.Words.{AtEach}
 use Rattle.xa_pipe.specs.Frames.{shutdown_frame, invokes_in, farewell, frames_out}
-use Rattle.xa_pipe.specs.Life.{Turn, Written, LifeId, LinkShows, LastTurn, Says, IsOf, IsCounted, Took, Gave, EachReplied, MayFail, AllCame, StopsClosed, StopsSpent, cause_of, came_in, finishes_in, tag_after, may_end}
+use Rattle.xa_pipe.specs.Life.{Turn, Written, LifeId, LinkShows, LastTurn, Says, IsOf, IsCounted, Took, Gave, EachReplied, MayFail, AllCame, StopsClosed, StopsSpent, cause_of, came_in, finishes_in, calls_in, replied_of, tag_after, may_end}
 
 -- what a life is: its server's name and number, its generation, what its link shows, the INVOKEs and REPLYs that were written to it, what its program
 -- said, and what comes next
@@ -30,6 +31,10 @@ pub record LifeState : Type 0 where
 -- the INVOKEs among these
 abbrev pub invokes_of : LifeState → List Frame
 invokes_of life = invokes_in life.asked
+
+-- the calls that its program asked for and that were made, in order
+abbrev pub calls_of : LifeState → List Op
+calls_of life = replied_of life.turn (calls_in life.said)
 
 -- how many invocations its program answered, by a RETURN or a FORWARD
 abbrev pub returned : LifeState → ℕ

@@ -3,7 +3,6 @@
 use Rattle.std.specs.Prelude.{◌≡◌, ℕ, Bool, true, false, ◌||◌, List, [], ◌∷◌, ◌++◌, IfSome, ⊤}
 use Rattle.std.specs.List.{All}
 use Rattle.xa_desk.specs.xa_types.declared.stamp.Stamp.{Stamp}
-use Rattle.xa_desk.specs.xa_types.declared.ids.Generation.{Generation}
 use Rattle.xa_desk.specs.xa_events.declared.event.Event.{Event}
 use Rattle.xa_desk.specs.xa_events.declared.event.Event.TheVariants.{Sweep, Start, StartFailed, End, Stop}
 use Rattle.xa_desk.specs.xa_events.declared.event.Outcome.{Outcome}
@@ -104,6 +103,6 @@ abbrev pub IsCalm : Desk → Type 0
 IsCalm desk = ToldAll desk × (is_ending (past_in desk.caller.work.own) ≡ false)
 
 -- by the life that goes on, if one does
-abbrev pub ToldBy : List Generation → Desk → Type 0
+abbrev pub ToldBy : {X : Type 0} → List X → Desk → Type 0
 ToldBy [] desk = TellsLast desk
-ToldBy (g ∷ more) desk = IsCalm desk
+ToldBy (life ∷ more) desk = IsCalm desk

@@ -1,4 +1,5 @@
 pub mod Behind
+pub mod Attending
 pub mod Reasons
 pub mod Lives
 pub mod Working

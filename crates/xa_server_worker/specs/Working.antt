@@ -9,6 +9,7 @@ use Rattle.xa_desk.specs.declared.domain.Domain.{Domain}
 use Rattle.xa_desk.specs.Desks.{IsDesk, Leads}
 use Rattle.xa_desk.specs.Halting.{IsStopAt}
 use Rattle.xa_desk.specs.Serving.{IsServing}
+use Rattle.xa_calls.specs.Going.{IsOut}
 use Rattle.xa_server_worker.specs.declared.working.ServerWorker.{ServerWorker}
 use Rattle.xa_server_worker.specs.Lives.{HasStarted, ServerShows}
 
@@ -31,12 +32,14 @@ module _ {L T : Type 0} (d : Domain) (shows : T → StarterShows) where
     pub name_is : (shows worker.served.starter).name ≡ worker.name
     pub unasked : HasStarted worker.name 0 0 (shows worker.served.starter)
 
-  -- behind its work: its desk went on and may be left, nothing is in hand, its first start is counted, and it shows how its server lived
+  -- behind its work: its desk went on and may be left, or given up where it stopped before, nothing is in hand, its first start is counted, and it shows how its
+  -- server lived
   pub record HasServed (old new : ServerWorker L T) : Type 0 where
     pub leads : Leads d old.desk new.desk
     pub id : new.desk.caller.work.id ≡ old.desk.caller.work.id
     pub clients : new.desk.caller.work.clients ≡ old.desk.caller.work.clients
-    pub idle : new.desk.caller.phase ≡ Idle
+    pub idle : new.stopped ≡ None → new.desk.caller.phase ≡ Idle
+    pub out : IsOut new.desk
     pub hand : new.served.slot.hand ≡ None
     pub counted : new.counted ≡ true
     pub server : new.served.slot.server ≡ old.served.slot.server

@@ -1,6 +1,7 @@
 //! A server's worker: it starts the server, hands it the requests of its queue one after another, and retires it.
 #![tactic(auto)]
 
+mod attending;
 mod living;
 mod passing;
 mod retiring;

@@ -4,19 +4,17 @@ ghost use Rattle.xa_desk.specs.xa_types.declared.stamp.Stamp.{Stamp};
 ghost use Rattle.xa_desk.specs.xa_events.Cases.{IsShut};
 ghost use Rattle.xa_desk.specs.xa_events.Server.{is_shutdown};
 ghost use Rattle.xa_desk.specs.xa_events.declared.event.Doing.TheVariants as doings;
-ghost use Rattle.xa_desk.specs.xa_pipe.declared.turn.Turn.TheVariants.{AwaitsNext, Serving, Exited};
-ghost use Rattle.xa_desk.specs.xa_pipe.Frames.{return_frame, forward_frame};
-ghost use Rattle.xa_desk.specs.xa_pipe.Standing.{LifeState, IsSound, cut_short, tag_of};
-ghost use Rattle.xa_desk.specs.xa_pipe.Changes.{Heard};
+ghost use Rattle.xa_desk.specs.xa_pipe.declared.turn.Turn.TheVariants.{AwaitsNext, Exited};
+ghost use Rattle.xa_desk.specs.xa_pipe.Standing.{IsSound, cut_short};
+ghost use Rattle.xa_desk.specs.xa_pipe.declared.hearing.Finish.TheVariants.{Returns, Forwards};
 ghost use Rattle.xa_desk.specs.xa_server.declared.slot.Last.TheVariants as lasts;
-ghost use Rattle.xa_desk.specs.xa_types.declared.ids.RequestId.{RequestId as Asked};
 ghost use Rattle.xa_desk.specs.xa_events.declared.event.Taken.{Taken};
-ghost use Rattle.xa_desk.specs.Serving.{IsTaken, IsToTell};
+ghost use Rattle.xa_desk.specs.Serving.{IsToTell};
 ghost use Rattle.xa_desk.specs.Desks.{IsDomain};
 ghost use Rattle.xa_desk.specs.Found.{SawAtQueue};
 ghost use Rattle.xa_server_worker.specs.Behind.{ToldBefore};
 ghost use Rattle.xa_server_worker.specs.Steps.{is_exit};
-ghost use Rattle.xa_server_worker.specs.Standing.{Goes, IsIn, IsFree, HasTaken, MayDie, HasEnded, OverWith, ExchangedAs, OffAs};
+ghost use Rattle.xa_server_worker.specs.Standing.{Goes, IsIn, IsFree, HasTaken, HasFinished, MayDie, HasEnded, OverWith, ExchangedAs, OffAs};
 
 use crate::passing::forward;
 use crate::telling::{tell, tell_if};
@@ -24,7 +22,7 @@ use crate::working::ServerWorker;
 use std::sync::Wait;
 use xa_desk::events::StopCause;
 use xa_desk::link::{Gate, Link, Starter};
-use xa_desk::pipe::{Answered, EndedLife, Finish, Forward, Life, Return};
+use xa_desk::pipe::{EndedLife, Finish, Forward, Life, Return};
 use xa_desk::server::Closing;
 use xa_desk::types::Rval;
 use xa_desk::{Domain, Monitor, Stopped};
@@ -118,8 +116,7 @@ impl<L: Link, T: Starter<L>> ServerWorker<L, T> {
         back: Return,
     ) -> Result<Exchanged<L>, Stopped>
         requires domain { IsDomain monitor.now.domain.now }
-        requires before { (old : LifeState) × (request : Asked) × IsIn monitor.now.domain.now T.shows (doings.Busy old.generation request) Serving 1 old self.old
-            × Heard (return_frame (tag_of old) back.value back.code back.payload) life old }
+        requires finished { (t : Taken) × HasFinished monitor.now.domain.now T.shows t (Returns back) life self.old }
         ensures goes { Goes monitor.now.domain.now self.old self.new }
         ensures exchanged { IfOk result (λ exchanged. ExchangedAs monitor.now.domain.now T.shows exchanged self.new) }
         ensures halted { IfErr result (λ stopped. HasEnded monitor.now.domain.now T.shows (Some stopped) self.new) }
@@ -149,8 +146,7 @@ impl<L: Link, T: Starter<L>> ServerWorker<L, T> {
         forwards: Forward,
     ) -> Result<Exchanged<L>, Stopped>
         requires domain { IsDomain monitor.now.domain.now }
-        requires before { (old : LifeState) × (t : Taken) × IsIn monitor.now.domain.now T.shows (doings.Busy old.generation t.request) Serving 1 old self.old
-            × Heard (forward_frame (tag_of old) forwards.service forwards.payload) life old × IfSome self.old.served.slot.hand (IsTaken monitor.now.domain.now self.old.queue.0 t self.old.desk) }
+        requires finished { (t : Taken) × HasFinished monitor.now.domain.now T.shows t (Forwards forwards) life self.old }
         ensures goes { Goes monitor.now.domain.now self.old self.new }
         ensures exchanged { IfOk result (λ exchanged. ExchangedAs monitor.now.domain.now T.shows exchanged self.new) }
         ensures halted { IfErr result (λ stopped. HasEnded monitor.now.domain.now T.shows (Some stopped) self.new) }
@@ -186,7 +182,26 @@ impl<L: Link, T: Starter<L>> ServerWorker<L, T> {
         }
     }
 
-    // Hands the request in hand to the program, and hears what its service returns or forwards.
+    // The service is done with its request.
+    pub(crate) fn finished<W: Wait, G: Gate>(
+        &mut self,
+        monitor: &Monitor<'_, W, G>,
+        life: Life<L>,
+        back: Finish,
+    ) -> Result<Exchanged<L>, Stopped>
+        requires domain { IsDomain monitor.now.domain.now }
+        requires finished { (t : Taken) × HasFinished monitor.now.domain.now T.shows t back life self.old }
+        ensures goes { Goes monitor.now.domain.now self.old self.new }
+        ensures exchanged { IfOk result (λ exchanged. ExchangedAs monitor.now.domain.now T.shows exchanged self.new) }
+        ensures halted { IfErr result (λ stopped. HasEnded monitor.now.domain.now T.shows (Some stopped) self.new) }
+    {
+        match back {
+            Finish::Returns(back) => self.returned(monitor, life, back),
+            Finish::Forwards(forwards) => self.forwarded(monitor, life, forwards),
+        }
+    }
+
+    // Hands the request in hand to the program, and attends to its service.
     pub(crate) fn exchange<W: Wait, G: Gate>(
         &mut self,
         monitor: &Monitor<'_, W, G>,
@@ -199,16 +214,8 @@ impl<L: Link, T: Starter<L>> ServerWorker<L, T> {
         ensures halted { IfErr result (λ stopped. HasEnded monitor.now.domain.now T.shows (Some stopped) self.new) }
     {
         let asked = self.served.slot.invocation();
-        let sent = life.send(&asked.service, &asked.routine, &asked.payload);
-        let life = match sent {
-            Ok(life) => life,
-            Err(over) => return Ok(Exchanged::Over(self.died(monitor.domain, over)?)),
-        };
-        match life.hear() {
-            Ok(Answered { life, back }) => match back {
-                Finish::Returns(back) => self.returned(monitor, life, back),
-                Finish::Forwards(forwards) => self.forwarded(monitor, life, forwards),
-            },
+        match life.send(&asked.service, &asked.routine, &asked.payload) {
+            Ok(life) => self.attend(monitor, life),
             Err(over) => Ok(Exchanged::Over(self.died(monitor.domain, over)?)),
         }
     }
