@@ -57,7 +57,7 @@ pub mod stamp {
 pub mod types {
     pub use xa_types::{
         Answer, Ask, CallerId, Data, Fault, Found, Generation, Kind, Name, NoMemory, Octets, Op,
-        QueueId, RequestId, Row, Rval, Sequence, ServerId, ServiceSetup, Setup, Stamp, Worn,
+        QueueId, Reply, RequestId, Row, Rval, Sequence, ServerId, ServiceSetup, Setup, Stamp, Worn,
     };
 }
 

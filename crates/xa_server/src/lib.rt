@@ -70,7 +70,7 @@ pub mod stamp {
 pub mod types {
     pub use xa_caller::types::{
         Answer, Ask, CallerId, Data, Fault, Generation, Kind, Name, NoMemory, Octets, Op, QueueId,
-        RequestId, Rval, Sequence, ServerId, ServiceSetup, Setup, Stamp, Worn,
+        Reply, RequestId, Rval, Sequence, ServerId, ServiceSetup, Setup, Stamp, Worn,
     };
 }
 
