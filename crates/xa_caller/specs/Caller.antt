@@ -50,6 +50,11 @@ pub record IsSound (c : CallerState) : Type 0 where
 abbrev pub MayCall : CallerState → Type 0
 MayCall c = (is_client c.work.clients c.work.id.0 ≡ true) ⊎ (is_serving c.work.clients c.work.id.0 (theirs c.work) ≡ true)
 
+-- for how many events the caller's own home has room before a request is sent: for the answer, and beside it for the end of a request and of a life,
+-- which the worker of a server that calls must be able to note whatever becomes of the call
+abbrev pub room_to_send : ℕ
+room_to_send = 3
+
 -- these are rows of the service, as the setup gives them
 abbrev pub AreRowsOf : Setup → List ℕ → List Row → Type 0
 AreRowsOf setup service rows = All (λ (row : Row). row ≡ row_for setup service row.queue.0 row.routine) rows

@@ -40,7 +40,7 @@ use Rattle.xa_caller.specs.declared.outcomes.Step.{Step}
 use Rattle.xa_caller.specs.declared.outcomes.Step.TheVariants as steps
 use Rattle.xa_caller.specs.Phases.{least_by}
 use Rattle.xa_caller.specs.Drafts.{accepted_by, entry_by}
-use Rattle.xa_caller.specs.Caller.{CallerState}
+use Rattle.xa_caller.specs.Caller.{CallerState, room_to_send}
 
 -- the event is noted with the next stamp of the caller as it stood then, and the caller is else as `left`
 pub record Notes (stamp : Stamp) (event : Event) (left new : CallerState) : Type 0 where
@@ -88,7 +88,7 @@ pub record Prepares (setup : Setup) (cells : CellsOf Filling) (op : ℕ) (payloa
   pub drafted : draft.event.value ≡ prepared.event
   pub entry : prepared.entry ≡ entry_by (record { caller = old.work.id; number = old.sent + 1 }) row old.priority payload prepared.entry.cargo.ticket
   pub began : Began cells (record { caller = old.work.id; number = old.sent + 1 }) old.seat new.seat draft.asked.place prepared.entry.cargo.ticket
-  pub made : new ≡ record old { work = record old.work { room = max old.work.room 1 }; seat = new.seat; phase = Prepared draft }
+  pub made : new ≡ record old { work = record old.work { room = max old.work.room room_to_send }; seat = new.seat; phase = Prepared draft }
 
 abbrev pub stop : Result Stamp Halt → Stop
 stop (Ok stamp) = stops.Refused stamp
@@ -104,7 +104,7 @@ TurnsDown op found (stops.Halt halt) new old = HaltsAt old.work.stamp halt × (n
 pub record Limits (op : ℕ) (stamp : Stamp) (new old : CallerState) : Type 0 where
   pub seat : Seat Filling
   pub taken : AllTaken old.seat seat
-  pub refuses : Refuses op Limit (Cells old.seat.count) stamp new (record old { work = record old.work { room = max old.work.room 1 }; seat = seat })
+  pub refuses : Refuses op Limit (Cells old.seat.count) stamp new (record old { work = record old.work { room = max old.work.room room_to_send }; seat = seat })
 
 -- why no request is made: no row that was found takes the kind of the data, or else all cells are in use, or memory or stamps came to their end
 abbrev pub StopsAs : Setup → ℕ → Data → FoundRows → Stop → CallerState → CallerState → Type 0
@@ -123,10 +123,11 @@ pub record Sends (stamp : Stamp) (new old : CallerState) : Type 0 where
 
 -- ---- reply
 
--- the answer was taken from the cell, and the caller is told it
+-- the answer was taken from the cell, and the caller is told it, in room that was made when the request was sent
 pub record Answers (expect : Option Kind) (stamp : Stamp) (new old : CallerState) : Type 0 where
   pub sent : Open
   pub was : old.phase ≡ Sent sent
+  pub room : room_to_send ≤ old.work.room
   pub asked : (at sent.place.cell (known old.seat)).asked ≡ sent.request ∷ []
   pub filling : Filling
   pub reply : Reply

@@ -18,7 +18,7 @@ use Rattle.xa_caller.specs.declared.phase.Draft.{Draft}
 use Rattle.xa_caller.specs.declared.phase.Phase.{Phase}
 use Rattle.xa_caller.specs.declared.phase.Phase.TheVariants.{Idle, Prepared, Sent, Lost}
 use Rattle.xa_caller.specs.Phases.{places_in}
-use Rattle.xa_caller.specs.Caller.{CallerState, IsSound}
+use Rattle.xa_caller.specs.Caller.{CallerState, IsSound, room_to_send}
 
 abbrev pub standing_of : Inside → CallerState
 standing_of c = record { work = c.work; seat = c.seat; op = c.op; sent = c.sent; least = c.least; priority = c.priority; phase = c.phase }
@@ -43,11 +43,11 @@ pub record IsSeated (clients : ℕ) (id : CallerId) (seat : Seat Filling) : Type
   pub limit : seat.count ≡ descriptor_limit clients id.0
   pub free : (k : ℕ) → seat.first ≤ k → k < seat.first + seat.count → (at k (known seat)).asked ≡ [] → 1 ≤ (at k (known seat)).settled
 
--- what holds of where the call stands: a draft is of the next request, and a request is the caller's own, with room for its answer
+-- what holds of where the call stands: a draft is of the next request, and a request is the caller's own, with the room that is made to send one
 abbrev pub Holds : Setup → CallerId → ℕ → ℕ → ℕ → ℕ → Option (Bool × ℤ) → Phase → Type 0
 Holds setup id room op sent least priority Idle = Unit {0}
-Holds setup id room op sent least priority (Prepared draft) = (1 ≤ room) × IsDraft setup id op sent least priority draft
-Holds setup id room op sent least priority (Sent sent') = (1 ≤ room) × (sent'.request.caller ≡ id) × (1 ≤ op)
+Holds setup id room op sent least priority (Prepared draft) = (room_to_send ≤ room) × IsDraft setup id op sent least priority draft
+Holds setup id room op sent least priority (Sent sent') = (room_to_send ≤ room) × (sent'.request.caller ≡ id) × (1 ≤ op)
 Holds setup id room op sent least priority (Lost request) = Unit {0}
 
 pub record IsKept (c : Inside) : Type 0 where

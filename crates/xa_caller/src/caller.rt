@@ -1,5 +1,5 @@
 // The caller.
-ghost use Rattle.std.specs.Prelude.{◌≡◌, ◌+◌, ◌≤◌, ◌<◌, ◌^◌, true, false, max, [], None, Some, IfOk, IfErr, IfSome, OnOk, OnErr};
+ghost use Rattle.std.specs.Prelude.{◌≡◌, ℕ, ◌+◌, ◌≤◌, ◌<◌, ◌^◌, true, false, max, [], None, Some, IfOk, IfErr, IfSome, OnOk, OnErr};
 ghost use Rattle.std.specs.List.{find, filter};
 ghost use Rattle.xa_types.specs.Configured.{is_configured};
 ghost use Rattle.xa_events.specs.Calls.{is_invalid_call};
@@ -7,6 +7,8 @@ ghost use Rattle.xa_events.specs.Cases.{ShowsItself, IsOwnEvidence};
 ghost use Rattle.xa_events.specs.Board.{boot};
 ghost use Rattle.xa_events.specs.Caller.{version_in, descriptor_limit};
 ghost use Rattle.xa_events.specs.Homes.Home.{CallerHome};
+ghost use Rattle.xa_events.specs.Said.{is_op};
+ghost use Rattle.xa_events.specs.Words.{count};
 ghost use Rattle.xa_cell.specs.Known.{known, IsSeatOf, SameSeat, IsNew};
 ghost use Rattle.xa_cell.specs.Known.{IsTicketOf};
 ghost use Rattle.xa_cell.specs.Changes.{withdrawn};
@@ -46,6 +48,9 @@ use xa_types::{
     Ask, CallerId, Data, Fault, Found, Kind, Mode, NoMemory, RequestId, Row, Setup, Stamp,
 };
 use xa_worker::{Halt, Work};
+
+// For how many events there is room at its own home before a request is sent.
+const ROOM_TO_SEND: u32 = 3;
 
 /// What a caller leaves behind.
 pub struct Left {
@@ -301,6 +306,15 @@ impl Caller {
         self.work.id()
     }
 
+    /// The number of its last call, or 0 where it made none. No event of it has a greater one.
+    pub fn op(&self) -> u32
+        ensures value { result ≡ self.now.op }
+        ensures new { (n : ℕ) → self.now.op < n → count (is_op self.now.work.id.0 n) (theirs self.now.work) ≡ 0 }
+    {
+        let _itself = self.work.stamp();
+        self.op
+    }
+
     /// The greatest stamp that it noted or saw.
     pub fn stamp(&self) -> Stamp
         ensures value { result ≡ self.now.work.stamp }
@@ -390,7 +404,7 @@ impl Caller {
     }
 
     /// Makes a request for its next call, by the first of the rows that were found whose service accepts the kind of the
-    /// data, with a cell for its reply. There is room for the answer then.
+    /// data, with a cell for its reply. There is room for the answer then, and for the end of a server's life.
     pub fn prepare(
         &mut self,
         alloc: Global,
@@ -419,7 +433,7 @@ impl Caller {
         let Ok(copies) = two_copies(alloc, &ask.payload) else {
             return Err(Stop::Halt(Halt::NoMemory));
         };
-        if self.work.reserve(1).is_err() {
+        if self.work.reserve(ROOM_TO_SEND).is_err() {
             return Err(Stop::Halt(Halt::NoMemory));
         }
         let request = self.next_request();

@@ -16,3 +16,4 @@ pub mod Dense
 pub mod Ending
 pub mod Crewed
 pub mod Noting
+pub mod Numbers

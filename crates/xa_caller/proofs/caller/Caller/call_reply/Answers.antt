@@ -74,6 +74,7 @@ returns-in-Ok-clause-step c =
     subst (Answers c.args.expect.now c.in-Ok.stamp _) c.self.view_is (record {
       sent = sent;
       was = sym c.take_out.ensures.0 ∙ c.sent_in-open.ensures;
+      room = (subst (Holds w.setup w.id w.room s.op s.sent s.least s.priority) (sym c.take_out.ensures.0 ∙ c.sent_in-open.ensures) c.self.invariant.holds).0;
       asked = (subst (λ p. OpenAre (places_in p) (known c.self.inside.seat)) (sym c.take_out.ensures.0 ∙ c.sent_in-open.ensures) c.self.invariant.places).asked sent.place.cell
           ∙ ap (λ b. cond b (sent.request ∷ []) []) (eq-eqb sent.place.cell sent.place.cell refl);
       filling = filling;

@@ -9,7 +9,7 @@ use Rattle.xa_worker.specs.Work.{WorkState}
 use Rattle.xa_caller.specs.declared.phase.Phase.{Phase}
 use Rattle.xa_caller.specs.declared.phase.Phase.TheVariants.{Idle, Prepared}
 use Rattle.xa_caller.specs.Phases.{places_in}
-use Rattle.xa_caller.specs.Caller.{CallerState, IsSound, view_of}
+use Rattle.xa_caller.specs.Caller.{CallerState, IsSound, view_of, room_to_send}
 use Rattle.xa_caller.specs.Kept.{standing_of, Holds, IsSeated, IsKept}
 use Rattle.xa_caller.proofs.Keeping.{more_room, on_err, seated-stand, seated-but, finds_free}
 use Rattle.std.proofs.Common.{max}
@@ -42,7 +42,7 @@ pub invariant_of-self : goal.invariant_of-self
 invariant_of-self c = subst (λ (v : WorkState). IsKept (record c.self.inside { work = v })) (sym (on_err c.reserve.result (sym c.is_err.ensures.value ∙ c.if-is_err.true) c.reserve.ensures.kept)) c.self.invariant
 
 pub invariant_of-self-2 : goal.invariant_of-self-2
-invariant_of-self-2 c = more_room c.self.inside c.reserve.new.self 1 c.self.invariant (on_ok c.reserve.result (sym c.is_err.ensures.value ∙ c.if-is_err.false) c.reserve.ensures.ok)
+invariant_of-self-2 c = more_room c.self.inside c.reserve.new.self room_to_send c.self.invariant (on_ok c.reserve.result (sym c.is_err.ensures.value ∙ c.if-is_err.false) c.reserve.ensures.ok)
 
 pub refuse-requires-clause-shows : goal.refuse-requires-clause-shows
 refuse-requires-clause-shows c =
@@ -59,7 +59,7 @@ invariant_of-self-in-Err c =
     let s : CallerState = standing_of c.self.inside in
     let i = c.self.invariant in
     let w : WorkState = c.self.inside.work in
-    let made : c.reserve.new.self ≡ record w { room = max w.room 1 } = on_ok c.reserve.result (sym c.is_err.ensures.value ∙ c.if-is_err.false) c.reserve.ensures.ok in
+    let made : c.reserve.new.self ≡ record w { room = max w.room room_to_send } = on_ok c.reserve.result (sym c.is_err.ensures.value ∙ c.if-is_err.false) c.reserve.ensures.ok in
     let idle : s.phase ≡ Idle = ap (λ (t : CallerState). t.phase) c.self.view_is ∙ c.requires.idle in
     let same = ap (λ (v : WorkState). v.stamp.0) made in
     record {
@@ -75,7 +75,7 @@ invariant_of-self-in-Ok-draft_by c =
     let s : CallerState = standing_of c.self.inside in
     let i = c.self.invariant in
     let w : WorkState = c.self.inside.work in
-    let made : c.reserve.new.self ≡ record w { room = max w.room 1 } = on_ok c.reserve.result (sym c.is_err.ensures.value ∙ c.if-is_err.false) c.reserve.ensures.ok in
+    let made : c.reserve.new.self ≡ record w { room = max w.room room_to_send } = on_ok c.reserve.result (sym c.is_err.ensures.value ∙ c.if-is_err.false) c.reserve.ensures.ok in
     let idle : s.phase ≡ Idle = ap (λ (t : CallerState). t.phase) c.self.view_is ∙ c.requires.idle in
     let same = ap (λ (v : WorkState). v.stamp.0) made in
     let drafted = c.in-Ok-draft_by.drafted in
@@ -93,7 +93,7 @@ invariant_of-self-in-Ok-draft_by c =
     let a : Accepted = accepted_by c.args.op request c.found.inside.version c.in-Some.row s.priority sent in
     record {
       sound = subst (λ (v : WorkState). IsSound (record s { work = v; seat = c.draft_by.new.seat; phase = c.set.new.phase })) (sym made) (record { reads = reads_prepared w.setup (view_of w) s.op s.sent s.least s.priority s.phase c.set.new.phase drafted.draft idle now i.sound.reads });
-      holds = subst (λ (v : WorkState). Holds v.setup v.id v.room s.op s.sent s.least s.priority c.set.new.phase) (sym made) (subst (Holds w.setup w.id (max w.room 1) s.op s.sent s.least s.priority) (sym now) (
+      holds = subst (λ (v : WorkState). Holds v.setup v.id v.room s.op s.sent s.least s.priority c.set.new.phase) (sym made) (subst (Holds w.setup w.id (max w.room room_to_send) s.op s.sent s.least s.priority) (sym now) (
         omega arith,
         record {
           accepted = a;
@@ -121,7 +121,7 @@ pub returns-in-Ok-draft_by-clause-ok : goal.returns-in-Ok-draft_by-clause-ok
 returns-in-Ok-draft_by-clause-ok c =
     let s : CallerState = standing_of c.self.inside in
     let w : WorkState = c.self.inside.work in
-    let made : c.reserve.new.self ≡ record w { room = max w.room 1 } = on_ok c.reserve.result (sym c.is_err.ensures.value ∙ c.if-is_err.false) c.reserve.ensures.ok in
+    let made : c.reserve.new.self ≡ record w { room = max w.room room_to_send } = on_ok c.reserve.result (sym c.is_err.ensures.value ∙ c.if-is_err.false) c.reserve.ensures.ok in
     let drafted = c.in-Ok-draft_by.drafted in
     let e = c.in-Ok-draft_by.ensures in
     let m : RequestId = record { caller = w.id; number = s.sent + 1 } in
@@ -138,7 +138,7 @@ returns-in-Ok-draft_by-clause-ok c =
       drafted = e.event.0;
       entry = e.entry ∙ ap (λ r. entry_by r c.in-Some.row s.priority c.in-Ok.copies.kept drafted.entry.cargo.ticket) mine ∙ ap (λ d. entry_by m c.in-Some.row s.priority d drafted.entry.cargo.ticket) c.in-Ok.ensures.1;
       began = subst (λ r. Began c.args.cells.now r s.seat seat drafted.draft.asked.place drafted.entry.cargo.ticket) mine e.began;
-      made = ap (λ (v : WorkState). record s { work = v; seat = seat; phase = c.set.new.phase }) made ∙ ap (λ (p : Phase). record s { work = record w { room = max w.room 1 }; seat = seat; phase = p }) c.set.ensures;
+      made = ap (λ (v : WorkState). record s { work = v; seat = seat; phase = c.set.new.phase }) made ∙ ap (λ (p : Phase). record s { work = record w { room = max w.room room_to_send }; seat = seat; phase = p }) c.set.ensures;
     })
 
 pub returns-in-Ok-draft_by-clause-right : goal.returns-in-Ok-draft_by-clause-right
