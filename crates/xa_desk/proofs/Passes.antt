@@ -8,6 +8,7 @@ use Rattle.xa_server.specs.xa_types.declared.data.Data.{Data}
 use Rattle.xa_server.specs.xa_types.declared.ids.CallerId.{CallerId}
 use Rattle.xa_server.specs.xa_types.declared.ids.QueueId.{QueueId}
 use Rattle.xa_server.specs.xa_types.declared.ids.RequestId.{RequestId}
+use Rattle.xa_server.specs.xa_types.declared.ids.ServerId.{ServerId}
 use Rattle.xa_server.specs.xa_types.declared.row.Row.{Row}
 use Rattle.xa_server.specs.xa_types.declared.setup.Setup.{Setup}
 use Rattle.xa_server.specs.xa_types.declared.stamp.Stamp.{Stamp}
@@ -28,12 +29,11 @@ use Rattle.xa_server.specs.xa_events.Homes.{home_of}
 use Rattle.xa_server.specs.xa_events.Homes.Home.{BoardHome, QueueHome}
 use Rattle.xa_server.specs.xa_events.Local.{Forwardable}
 use Rattle.xa_server.specs.xa_events.Request.{is_entry_of}
-use Rattle.xa_server.specs.xa_events.State.{caller_of}
 use Rattle.xa_server.specs.xa_events.Words.{latest}
 use Rattle.xa_server.specs.xa_stamp.declared.home.Stamped.{Stamped}
 use Rattle.xa_server.specs.xa_lock.declared.makers.Made.{Made}
 use Rattle.xa_server.specs.xa_lock.Known.{known as page_of}
-use Rattle.xa_server.specs.xa_worker.Seen.{past_in, SawFront, SawSince}
+use Rattle.xa_server.specs.xa_worker.Seen.{past_in, SawFront}
 use Rattle.xa_server.specs.xa_queue.declared.entry.Entry.{Entry}
 use Rattle.xa_server.specs.xa_queue.Changes.{IsEntry, next_stamp}
 use Rattle.xa_server.proofs.xa_cell.Lists.{decided}
@@ -70,7 +70,7 @@ use Rattle.xa_desk.specs.declared.domain.Domain.{Domain}
 use Rattle.xa_desk.specs.declared.desk.Desk.{Desk}
 use Rattle.xa_desk.specs.Whole.{entries_of}
 use Rattle.xa_desk.specs.Desks.{HasGrounds, IsDomain, IsDesk, Leads, board_page, queue_page, page_in}
-use Rattle.xa_desk.specs.Found.{SawOnBoard, SawItsOwnAt, HasFound}
+use Rattle.xa_desk.specs.Found.{SawOnBoard, SawInHandAt, HasFound}
 use Rattle.xa_desk.specs.Serving.{IsTaken, IsServing, IsToTell}
 use Rattle.xa_desk.specs.Passing.{IsPassing, Leaves, StillPassing, forwarded_to, holding}
 use Rattle.xa_desk.proofs.Configured.{row_priority, asked_priority}
@@ -78,9 +78,9 @@ use Rattle.xa_desk.proofs.Dying.{serving_on, hand_on}
 use Rattle.xa_desk.proofs.Ending.{WasSeen, end_leads, ended_told, halted_leads}
 use Rattle.xa_desk.proofs.Leading.{Grew, grew_one}
 use Rattle.xa_desk.proofs.Preparing.{passes_found, weaker_front}
-use Rattle.xa_desk.proofs.Staying.{found_stays, itself_stays}
+use Rattle.xa_desk.proofs.Staying.{found_stays, in_hand_still}
 use Rattle.xa_desk.proofs.Stopping.{same_leads}
-use Rattle.xa_desk.proofs.Taking.{tables_seeing}
+use Rattle.xa_desk.proofs.Taking.{tables_seeing, hand_seen}
 use Rattle.xa_desk.specs.Visit.{IsAt}
 use Rattle.xa_desk.proofs.Entering.{setting_here}
 use Rattle.xa_server.specs.xa_lock.declared.pass.Page.{Page}
@@ -111,14 +111,14 @@ may_forward request what (Some e) is = by e is
     by _ is = absurd is
 
 -- what is weaker was seen too
-saw_weaker : (d : Domain) (queue : ℕ) (desk : Desk) (P Q : List Event → Type 0) → ((past : List Event) → P past → Q past) → SawItsOwnAt d queue desk P → SawItsOwnAt d queue desk Q
-saw_weaker d queue desk P Q less saw whole on stamp later = let it = saw whole on stamp later in record { front = it.front; stands = it.stands; before = it.before; shows = (λ news. less (past_in it.front) (it.shows.0 news), it.shows.1) }
+saw_weaker : (d : Domain) (server : ℕ) (desk : Desk) (P Q : List Event → Type 0) → ((past : List Event) → P past → Q past) → SawInHandAt d server desk P → SawInHandAt d server desk Q
+saw_weaker d server desk P Q less saw whole on stamp later = let it = saw whole on stamp later in record { front = it.front; stands = it.stands; before = it.before; shows = (λ news. less (past_in it.front) (it.shows.0 news), it.shows.1) }
 
 -- ---- a request that is out
 
 module _ {d : Domain} {queue : ℕ} {desk : Desk} {slot : ServerSlot} (base : ServerSlot) (serving : IsServing d queue base desk) (server : slot.server ≡ base.server) (gone : slot.gone ≡ base.gone) (service : List ℕ) (has : HasFound d service desk.reader.found desk) where
   passing_by : (row : Row) → Contains desk.reader.found.rows row → (hop : ℕ) (payload : Data) (was entry : Entry Cargo) (event : Event) → GoesBy desk.reader.found.version row desk.caller.priority hop payload was entry event slot → IsOnWay entry event slot desk.caller
-      → IsRight d.cells was → IsData payload → is_accepted d.setup row.accepts (kind_of payload) ≡ true → SawItsOwnAt d queue desk (λ past. IsSomeAnd (latest (is_entry_of was.request) past) (Forwardable hop)) → IsPassing d queue entry event slot desk
+      → IsRight d.cells was → IsData payload → is_accepted d.setup row.accepts (kind_of payload) ≡ true → SawInHandAt d base.server.0 desk (λ past. IsSomeAnd (latest (is_entry_of was.request) past) (Forwardable hop)) → IsPassing d queue entry event slot desk
   passing_by row among hop payload was entry event goes way right is_data accepts sent =
       let anew : entry_behind hop was.request row desk.caller.priority payload was.cargo.ticket ≡ entry = sym goes.entered in
       let v : ℕ = desk.reader.found.version in
@@ -133,7 +133,8 @@ module _ {d : Domain} {queue : ℕ} {desk : Desk} {slot : ServerSlot} (base : Se
         accepts = subst (λ (e : Entry Cargo). is_accepted d.setup row.accepts (kind_of e.cargo.invocation.payload) ≡ true) anew accepts;
         entry_is = subst (λ (e : Entry Cargo). e ≡ entry_behind e.cargo.invocation.hop e.request row desk.caller.priority e.cargo.invocation.payload e.cargo.ticket) anew refl;
         event_is = subst (λ (e : Entry Cargo). event ≡ Forward (forwarded_by slot e.request e.cargo.invocation.hop v row desk.caller.priority e.cargo.invocation.payload)) anew goes.forwards;
-        sent = subst (λ (e : Entry Cargo). SawItsOwnAt d queue desk (λ past. IsSomeAnd (latest (is_entry_of e.request) past) (Forwardable e.cargo.invocation.hop))) anew sent;
+        sent = subst (λ (s : ServerId). SawInHandAt d s.0 desk (λ past. IsSomeAnd (latest (is_entry_of entry.request) past) (Forwardable entry.cargo.invocation.hop))) (sym server)
+            (subst (λ (e : Entry Cargo). SawInHandAt d base.server.0 desk (λ past. IsSomeAnd (latest (is_entry_of e.request) past) (Forwardable e.cargo.invocation.hop))) anew sent);
       }
 
 -- ---- a forward that failed
@@ -217,8 +218,8 @@ module _ (d : Domain) (domain : IsDomain d) (desk : Desk) (is : IsDesk d desk) (
         (passing_by slot serving (ap (λ (s : ServerSlot). s.server) left) (ap (λ (s : ServerSlot). s.gone) left) service (found by.0) row (found-all accepting (Contains Found.rows) Found.rows row by.2 (All-contains_itself Found.rows)) hop payload held entry event
         (record { entered = goes.entered; forwards = goes.forwards ∙ ap (λ (s : ServerSlot). Forward (forwarded_by s held.request hop Found.version row desk.caller.priority payload)) (sym left) }) (subst (IsOnWay entry event slot') passes.same way)
         right (sound_is_data d.setup payload domain.configured by.1) (passes_found accepting Found.rows row by.2)
-        (saw_weaker d queue desk (λ past. IsSomeAnd (latest (is_entry_of held.request) past) (Brings held.request held.cargo.invocation)) (λ past. IsSomeAnd (latest (is_entry_of held.request) past) (Forwardable hop))
-        (λ past. may_forward held.request held.cargo.invocation (latest (is_entry_of held.request) past)) its.last))
+        (saw_weaker d slot.server.0 desk (λ past. IsSomeAnd (latest (is_entry_of held.request) past) (Brings held.request held.cargo.invocation)) (λ past. IsSomeAnd (latest (is_entry_of held.request) past) (Forwardable hop))
+        (λ past. may_forward held.request held.cargo.invocation (latest (is_entry_of held.request) past)) (hand_seen is serving its)))
 
   ways_lead : (queue : ℕ) → IsServing d queue slot desk → (way : Result Row ℕ) → So way → (forwarding : Forwarding) → ForwardsAs Found.version payload way forwarding slot' slot new desk.caller → Leads d desk (record desk { caller = new })
   ways_lead queue serving (Ok row) by (On entry event) passes = subst (λ (c : CallerState). Leads d desk (record desk { caller = c })) (sym passes.same) (same_leads d desk is)
@@ -302,7 +303,6 @@ module _ {d : Domain} {queue : ℕ} {entry : Entry Cargo} {event : Event} {slot 
 
       pub passed_leads : Leads d old new
       passed_leads =
-          let its = step.is in
           let found = passing.found in
           let payload : Data = entry.cargo.invocation.payload in
           let above = more in
@@ -310,21 +310,16 @@ module _ {d : Domain} {queue : ℕ} {entry : Entry Cargo} {event : Event} {slot 
           let least = ap (λ (c : CallerState). c.least) goes.noted in
           let x : Stamped = record { stamp = stamp; event = event } in
           let grew : Grew old.caller.work new.caller.work (x ∷ []) = grew_one old.caller.work new.caller.work old.caller.work.room x (ap (λ (c : CallerState). c.work) goes.noted) above (subst IsMade (sym passing.event_is) tt) in
-          let number : caller_of d.clients slot.server.0 ≡ old.caller.work.id.0 = ap (λ n. caller_of n slot.server.0) (sym its.clients) ∙ passing.serving.stands.tables.worker.number in
           noted_leads step maker stamp event put next grew (ap (home_of d.setup d.clients) passing.event_is ∙ ap QueueHome (sym to_is)) (ap (λ (c : CallerState). c.seat) goes.noted) (ap (λ (c : CallerState). c.work.stamp) goes.noted) (omega (arith, least, low))
           (λ whole on. subst (HasGrounds d whole old.caller.work.id.0 old.caller.work.own stamp) (sym passing.event_is) (record {
             saw = record {
               row = subst (λ (name : List ℕ). SawFront (entries_of whole BoardHome) stamp (RowStands d.setup Version name Its.queue.0 (RowAdmits d.setup false Its.routine payload))) (sym (row-service d.setup passing.service Its its_row))
                   (All-contains (λ (row : Row). is_accepted d.setup row.accepts (kind_of payload) ≡ true → SawOnBoard d old (RowStands d.setup Version passing.service row.queue.0 (RowAdmits d.setup false row.routine payload))) old.reader.found.rows Its (found.stand payload) passing.among passing.accepts whole on stamp above);
-              sent = subst (λ n. SawSince d.setup d.clients (entries_of whole) stamp n (queue_of d.setup slot.server.0) May (past_in old.caller.work.own)) (sym number)
-                  (subst (λ n. SawSince d.setup d.clients (entries_of whole) stamp old.caller.work.id.0 n May (past_in old.caller.work.own)) (sym passing.serving.its) (passing.sent whole on stamp above));
+              sent = passing.sent whole on stamp above;
             };
             told = tt;
             clears = tt;
           }))
-        where
-          May : List Event → Type 0
-          May past = IsSomeAnd (latest (is_entry_of entry.request) past) (Forwardable entry.cargo.invocation.hop)
 
       pub passed_serves : Stands slot' new.caller.work → IsServing d queue slot' new
       passed_serves stands =
@@ -374,7 +369,7 @@ module _ {d : Domain} {queue : ℕ} {entry : Entry Cargo} {event : Event} {slot 
             entry_is = passing.entry_is ∙ ap (λ asked. entry_behind entry.cargo.invocation.hop entry.request Its asked entry.cargo.invocation.payload entry.cargo.ticket) (sym priority);
             event_is = passing.event_is ∙ ap (λ (found : FoundRows). Forward (forwarded_by slot entry.request entry.cargo.invocation.hop found.version Its old.caller.priority entry.cargo.invocation.payload)) (sym reader)
                 ∙ ap (λ asked. Forward (forwarded_by slot entry.request entry.cargo.invocation.hop new.reader.found.version Its asked entry.cargo.invocation.payload)) (sym priority);
-            sent = itself_stays d old new leads queue (λ past. IsSomeAnd (latest (is_entry_of entry.request) past) (Forwardable entry.cargo.invocation.hop)) (ap (λ (c : CallerState). c.work.id) caller) (ap (λ (c : CallerState). c.work.own) caller) passing.sent;
+            sent = in_hand_still d old new leads slot.server.0 (λ past. IsSomeAnd (latest (is_entry_of entry.request) past) (Forwardable entry.cargo.invocation.hop)) (ap (λ (c : CallerState). c.work.own) caller) passing.sent;
           }
 
   -- ---- pass again

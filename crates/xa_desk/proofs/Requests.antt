@@ -12,9 +12,10 @@ use Rattle.xa_server.specs.xa_events.declared.event.Doing.TheVariants.{Busy}
 use Rattle.xa_server.specs.xa_events.declared.event.Event.{Event}
 use Rattle.xa_server.specs.xa_events.declared.event.Event.TheVariants.{Take}
 use Rattle.xa_server.specs.xa_events.declared.event.Taken.{Taken}
-use Rattle.xa_server.specs.xa_events.Homes.{is_own_at}
+use Rattle.xa_server.specs.xa_events.Homes.{is_take_by}
 use Rattle.xa_server.specs.xa_events.Homes.Home.{QueueHome}
 use Rattle.xa_server.specs.xa_events.Request.{is_entry_of}
+use Rattle.xa_server.specs.xa_events.State.{caller_of}
 use Rattle.xa_server.specs.xa_events.Words.{count, latest}
 use Rattle.xa_server.specs.xa_stamp.declared.home.Stamped.{Stamped}
 use Rattle.xa_server.specs.xa_lock.declared.makers.Made.{Made}
@@ -22,7 +23,7 @@ use Rattle.xa_server.specs.xa_lock.declared.pass.Page.{Page}
 use Rattle.xa_server.specs.xa_lock.Known.{known as page_of}
 use Rattle.xa_server.specs.xa_lock.Makers.{noted_in}
 use Rattle.xa_server.specs.xa_lock.Pages.{Knows, entries_by}
-use Rattle.xa_server.specs.xa_worker.Seen.{past_in, IfNew}
+use Rattle.xa_server.specs.xa_worker.Seen.{past_in, SawFront, IfNew}
 use Rattle.xa_server.proofs.xa_worker.Lists.{past_in-append}
 use Rattle.xa_server.specs.xa_queue.declared.told.Outgoing.{Outgoing}
 use Rattle.xa_server.specs.xa_queue.declared.queue.Taken.TheVariants as takes
@@ -48,10 +49,11 @@ use Rattle.xa_server.specs.Slot.{Stands}
 use Rattle.xa_desk.specs.declared.domain.Domain.{Domain}
 use Rattle.xa_desk.specs.declared.desk.Desk.{Desk}
 use Rattle.xa_desk.specs.declared.serving.Took.TheVariants as tooks
-use Rattle.xa_desk.specs.Desks.{Leads}
-use Rattle.xa_desk.specs.Found.{SawItsOwnAt}
+use Rattle.xa_desk.specs.Whole.{Whole, entries_of}
+use Rattle.xa_desk.specs.Desks.{GoesOn, Leads}
+use Rattle.xa_desk.specs.Found.{SawInHandAt}
 use Rattle.xa_desk.specs.Serving.{IsSentLast, IsTaken, IsServing, TakesAs}
-use Rattle.xa_desk.proofs.Showing.{front_there, own_seen}
+use Rattle.xa_desk.proofs.Showing.{front_there, takes_seen}
 use Rattle.xa_desk.proofs.Taking.{its_some, notes_serve}
 use Rattle.xa_desk.proofs.Visiting.{QueuePass, Step, its_pass, now_has, seen_front, setting_found, later, event_leads}
 
@@ -99,22 +101,27 @@ module _ {d : Domain} {queue k : ℕ} {desk new : Desk} {p p' : QueuePass} {last
       let its = setting_found step took in
       took.how.3 d.setup (record { capacity = ap (capacity_of d.setup) its.id ∙ sym its.capacity; servers = λ server. ap (λ n. queue_of d.setup server == n) its.id ∙ its.servers server }) (subst (λ n. AllNew d.setup n (past_in Front)) (sym its.id) news)
 
-  saw_last : SawItsOwnAt d queue new Sent
+  number : caller_of d.clients slot.server.0 ≡ new.caller.work.id.0
+  number = ap (λ n. caller_of n slot.server.0) (sym step.is.clients) ∙ serving.stands.tables.worker.number ∙ sym (ap (λ (c : CallerState). c.work.id.0) caller)
+
+  saw_last : SawInHandAt d slot.server.0 new Sent
   saw_last =
       let is = took_leads.desk in
       let now = now_has step in
-      let id : ℕ = new.caller.work.id.0 in
-      let is_own : Event → Bool = is_own_at d.setup d.clients id queue in
+      let takes : Event → Bool = is_take_by slot.server.0 in
       let past : past_in (events_at (page_of p').seen) ≡ Take Its ∷ past_in Front = ap past_in stands_at_end ∙ past_in-append Front (record { stamp = out.noted.stamp; event = Take Its } ∷ []) in
       let some = its_some serving in
       let same = ap (λ (c : CallerState). c.work.id.0) caller in
       let knows = knows_one took (ap (λ (i : CallerId). i.0) makes ∙ sym (its_pass step.has step.is).maker) in
-      front_there is now (λ past. IfNew d.setup queue Sent past × (count is_own past ≡ count is_own (past_in new.caller.work.own)))
-      (λ whole on. (subst (IfNew d.setup queue Sent) (sym {A = List Event} past) (λ news. sent_last news.1), own_seen is now took (omega (arith, some, same)) (knows_events (page_of p') took.new knows) whole on))
+      let Saw : ℕ → Type 0 = λ n. (whole : Whole) → GoesOn d whole new → (stamp : Stamp) → new.caller.work.stamp.0 < stamp.0
+      → SawFront (entries_of whole (QueueHome n)) stamp (λ past. IfNew d.setup n Sent past × (count takes past ≡ count takes (past_in new.caller.work.own))) in
+      subst Saw (sym serving.its) (front_there is now (λ past. IfNew d.setup queue Sent past × (count takes past ≡ count takes (past_in new.caller.work.own)))
+      (λ whole on. (subst (IfNew d.setup queue Sent) (sym {A = List Event} past) (λ news. sent_last news.1), takes_seen is now took slot.server.0 serving.its number (omega (arith, some, same)) (knows_events (page_of p') took.new knows) whole on)))
 
   took_taken : IsTaken d queue Its new out.entry
   took_taken = record {
     its = refl;
+    server = number;
     sent = λ whole on.
         let begins = seen_front (now_has step) whole on in
         let x : Stamped = record { stamp = out.noted.stamp; event = Take Its } in

@@ -6,16 +6,17 @@ use Rattle.xa_server.specs.xa_held.Visits.{Visits}
 use Rattle.xa_server.proofs.xa_held.Seen.{events_kept}
 use Rattle.xa_server.proofs.xa_held.Counting.{own_counted}
 use Rattle.std.specs.List.{All, filter, flat_map, Contains}
-use Rattle.std.proofs.lemmas.Bool.{ne_eqb, and_parts}
+use Rattle.std.proofs.lemmas.Bool.{cases_Bool, ne_eqb, and_parts, and_from}
 use Rattle.std.proofs.lemmas.Grind.{flat_map-append}
 use Rattle.std.proofs.lemmas.List.Elements.{All-weaker, All-contains, All-contains_itself, Contains-append_left}
 use Rattle.xa_server.specs.xa_types.declared.ids.RequestId.{RequestId}
 use Rattle.xa_server.specs.xa_types.declared.setup.Setup.{Setup}
 use Rattle.xa_server.specs.xa_types.Setup.{capacity_of, queue_of}
 use Rattle.xa_server.specs.xa_events.declared.event.Event.{Event}
-use Rattle.xa_server.specs.xa_events.Homes.{of_worker, at_home, is_own_at}
+use Rattle.xa_server.specs.xa_events.Homes.{of_worker, at_home, is_own_at, is_take_by}
 use Rattle.xa_server.specs.xa_events.Homes.Home.{QueueHome}
 use Rattle.xa_server.specs.xa_events.Queue.{is_down, is_closed, waiting}
+use Rattle.xa_server.specs.xa_events.State.{caller_of}
 use Rattle.xa_server.specs.xa_events.Views.{QueueView}
 use Rattle.xa_server.specs.xa_events.Words.{count}
 use Rattle.xa_server.specs.xa_stamp.declared.home.Stamped.{Stamped}
@@ -26,6 +27,7 @@ use Rattle.xa_server.specs.xa_lock.Pages.{Knows}
 use Rattle.xa_server.specs.xa_worker.Crew.{MayNote, stands_at}
 use Rattle.xa_server.specs.xa_types.declared.stamp.Stamp.{Stamp}
 use Rattle.xa_server.specs.xa_worker.Seen.{past_in, SawFront, IfNew}
+use Rattle.xa_server.proofs.xa_worker.Before.{take_at_queue, take_by_worker}
 use Rattle.xa_server.proofs.xa_worker.Lists.{count_part}
 use Rattle.xa_server.specs.xa_queue.Reading.{AllNew, Fits}
 use Rattle.xa_server.specs.xa_held.declared.kept_queue.QueueNote.{QueueNote}
@@ -53,6 +55,10 @@ head_of default (By made ∷ rest) = default
 pub not_own : (setup : Setup) (clients worker queue maker : ℕ) (e : Event) → 0 < worker → MayNote clients maker e → maker ≢ worker → is_own_at setup clients worker queue e ≡ false
 not_own setup clients worker queue maker e some (inl its) apart = ap (λ b. at_home setup clients (QueueHome queue) e && b) (ne_eqb _ worker (λ same. apart (sym its.1 ∙ same))) ∙ and-false (at_home setup clients (QueueHome queue) e)
 not_own setup clients worker queue maker e some (inr domain) apart = ap (λ b. at_home setup clients (QueueHome queue) e && b) (not_theirs clients worker e some domain) ∙ and-false (at_home setup clients (QueueHome queue) e)
+
+-- what fails a test fails one that asks no less
+not_so : {X : Type 0} (p q : X → Bool) → ((x : X) → p x ≡ true → q x ≡ true) → (x : X) → q x ≡ false → p x ≡ false
+not_so p q more x fails = elim (cases_Bool (p x)) [ inl y ↦ let is = more x y in absurd (cc (is, fails)) | inr n ↦ n ]
 
 -- the events of a worker at a queue, among its own
 pub count_theirs : (setup : Setup) (clients worker queue : ℕ) (past : List Event) → count (is_own_at setup clients worker queue) (filter (of_worker clients worker) past) ≡ count (is_own_at setup clients worker queue) past
@@ -109,12 +115,11 @@ module _ {d : Domain} {queue k : ℕ} {desk : Desk} {pass : QueuePass} (is : IsD
         subst (λ n. AllNew d.setup n (past_in (noted_in kept.queue.entries))) (sym setting.id) (subst (λ l. AllNew d.setup queue (past_in l)) seen_is new) in
         ap (λ (v : QueueView). v.waiting) (visits.reads.reads d.setup fits its_new).view ∙ read_there (List RequestId) (waiting d.setup)
 
-    -- all that the worker noted at the queue the pass saw there
-    pub own_seen : 0 < desk.caller.work.id.0 → Knows made_maker (made_page (page_of pass)) visits.new.queue.entries → (whole : Whole) → GoesOn d whole desk
-        → count (is_own_at d.setup d.clients desk.caller.work.id.0 queue) (past_in (events_at (page_of pass).seen)) ≡ count (is_own_at d.setup d.clients desk.caller.work.id.0 queue) (past_in desk.caller.work.own)
-    own_seen some knows whole on =
+    -- of the worker's own events at the queue the pass saw all that pass such a test
+    pub some_seen : (p : Event → Bool) → ((e : Event) → p e ≡ true → is_own_at d.setup d.clients desk.caller.work.id.0 queue e ≡ true) → 0 < desk.caller.work.id.0 → Knows made_maker (made_page (page_of pass)) visits.new.queue.entries
+        → (whole : Whole) → GoesOn d whole desk → count p (past_in (events_at (page_of pass).seen)) ≡ count p (past_in desk.caller.work.own)
+    some_seen p its_own some knows whole on =
         let id : ℕ = desk.caller.work.id.0 in
-        let p : Event → Bool = is_own_at d.setup d.clients id queue in
         let entries : List Made = kept.queue.entries in
         let made : List (QueueNote Filling) → List Made = λ l. flat_map (made_of {A = Filling}) l in
         let begins = front_at has whole on in
@@ -123,6 +128,18 @@ module _ {d : Domain} {queue k : ℕ} {desk : Desk} {pass : QueuePass} (is : IsD
         let May : Made → Type 0 = λ m. MayNote d.clients m.maker.0 m.noted.event in
         let may : All May entries = All-weaker (Contains entries) May (λ m here. All-contains May (entries ++ made begins.0) m (subst (All May) whole_is (on.may queue)) (Contains-append_left entries (made begins.0) m here)) entries (All-contains_itself entries) in
         let others : All (λ (e : Made). made_maker e ≢ id → p e.noted.event ≡ false) entries =
-        All-weaker (λ (m : Made). MayNote d.clients m.maker.0 m.noted.event) (λ (e : Made). made_maker e ≢ id → p e.noted.event ≡ false) (λ e may apart. not_own d.setup d.clients id queue e.maker.0 e.noted.event some may apart) entries may in
+        All-weaker (λ (m : Made). MayNote d.clients m.maker.0 m.noted.event) (λ (e : Made). made_maker e ≢ id → p e.noted.event ≡ false) (λ e may apart. not_so p (is_own_at d.setup d.clients id queue) its_own e.noted.event (not_own d.setup d.clients id queue e.maker.0 e.noted.event some may apart)) entries may in
         ap (λ l. count p (past_in l)) seen_is
-        ∙ own_counted d.setup d.clients id queue (made_page (page_of pass)) entries desk.caller.work.own its.maker knows (its.own ∙ ap (λ n. filter (stands_at d.setup d.clients (QueueHome n)) desk.caller.work.own) (sym has.at)) others
+        ∙ own_counted d.setup d.clients id queue p (λ e is. (and_parts _ (of_worker d.clients id e) (its_own e is)).0) (made_page (page_of pass)) entries desk.caller.work.own its.maker knows (its.own ∙ ap (λ n. filter (stands_at d.setup d.clients (QueueHome n)) desk.caller.work.own) (sym has.at)) others
+
+    -- all that the worker noted at the queue
+    pub own_seen : 0 < desk.caller.work.id.0 → Knows made_maker (made_page (page_of pass)) visits.new.queue.entries → (whole : Whole) → GoesOn d whole desk
+        → count (is_own_at d.setup d.clients desk.caller.work.id.0 queue) (past_in (events_at (page_of pass).seen)) ≡ count (is_own_at d.setup d.clients desk.caller.work.id.0 queue) (past_in desk.caller.work.own)
+    own_seen = some_seen (is_own_at d.setup d.clients desk.caller.work.id.0 queue) (λ e is. is)
+
+    -- and where it is a server's, of that queue, each request that this took
+    pub takes_seen : (server : ℕ) → queue_of d.setup server ≡ queue → caller_of d.clients server ≡ desk.caller.work.id.0 → 0 < desk.caller.work.id.0 → Knows made_maker (made_page (page_of pass)) visits.new.queue.entries
+        → (whole : Whole) → GoesOn d whole desk → count (is_take_by server) (past_in (events_at (page_of pass).seen)) ≡ count (is_take_by server) (past_in desk.caller.work.own)
+    takes_seen server at number =
+        some_seen (is_take_by server) (λ e is. and_from (at_home d.setup d.clients (QueueHome queue) e) (of_worker d.clients desk.caller.work.id.0 e)
+        (subst (λ n. at_home d.setup d.clients (QueueHome n) e ≡ true) at (take_at_queue d.setup d.clients server e is)) (subst (λ n. of_worker d.clients n e ≡ true) number (take_by_worker d.clients server e is)))

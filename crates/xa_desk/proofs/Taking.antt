@@ -1,6 +1,6 @@
 -- A server's worker at its queue: what its pass gives, and what goes on as it visits.
 use Rattle.std.proofs.Common.{◌≡◌, ◌<◌, ℕ, zero, suc, ◌+◌, true, false, List, [], map, Option, refl, sym, ◌∙◌, ap, subst, arith, eq-eqb}
-use Rattle.std.specs.Prelude.{IfSome}
+use Rattle.std.specs.Prelude.{IfSome, IsSomeAnd}
 use Rattle.std.specs.List.{All}
 use Rattle.std.proofs.lemmas.List.Elements.{All-nil, All-cons, All-append}
 use Rattle.xa_server.specs.xa_types.declared.ids.CallerId.{CallerId}
@@ -9,8 +9,11 @@ use Rattle.xa_server.specs.xa_types.declared.setup.Setup.{Setup}
 use Rattle.xa_server.specs.xa_types.declared.stamp.Stamp.{Stamp}
 use Rattle.xa_server.specs.xa_types.Setup.{queue_of}
 use Rattle.xa_server.specs.xa_events.declared.event.Event.{Event}
+use Rattle.xa_server.specs.xa_events.declared.event.Taken.{Taken}
 use Rattle.xa_server.specs.xa_events.Cases.{IsShut}
+use Rattle.xa_server.specs.xa_events.Request.{is_entry_of}
 use Rattle.xa_server.specs.xa_events.State.{caller_of}
+use Rattle.xa_server.specs.xa_events.Words.{latest}
 use Rattle.xa_server.specs.xa_stamp.declared.told.Noted.{Noted}
 use Rattle.xa_server.specs.xa_lock.declared.makers.Made.{Made}
 use Rattle.xa_server.specs.xa_lock.Known.{known as page_of}
@@ -19,7 +22,7 @@ use Rattle.xa_server.specs.xa_queue.Queue.{has_server, gives_up}
 use Rattle.xa_server.specs.xa_held.declared.kept_queue.QueueNote.{QueueNote}
 use Rattle.xa_server.specs.xa_held.declared.kept_queue.QueueNote.TheVariants.{By}
 use Rattle.xa_server.specs.xa_held.Notes.{IsOther, told, maker_of}
-use Rattle.xa_server.specs.xa_held.Kept.{Kept, IsRight, notes_of}
+use Rattle.xa_server.specs.xa_held.Kept.{Kept, IsRight, Brings, notes_of}
 use Rattle.xa_server.specs.xa_lock.declared.pass.Page.{Page}
 use Rattle.xa_server.specs.xa_lock.Pages.{entries_by}
 use Rattle.xa_desk.specs.Visit.{IsAt}
@@ -38,8 +41,8 @@ use Rattle.xa_desk.specs.declared.desk.Desk.{Desk}
 use Rattle.xa_desk.specs.Desks.{IsDesk, page_at}
 use Rattle.xa_desk.proofs.Visiting.{QueuePass, HasPass, Step, its_pass, page_is, now_has, looked_leads}
 use Rattle.xa_desk.proofs.Showing.{saw_there, closed_seen, waits}
-use Rattle.xa_desk.specs.Found.{SawAtQueue}
-use Rattle.xa_desk.specs.Serving.{IsServing, HasNothing, Sees as SeesStamp}
+use Rattle.xa_desk.specs.Found.{SawAtQueue, SawInHandAt}
+use Rattle.xa_desk.specs.Serving.{IsServing, IsTaken, HasNothing, Sees as SeesStamp}
 
 -- a server of a queue has a number
 has_number : (setup : Setup) (server queue : ℕ) → queue_of setup server ≡ queue → 0 < queue → 0 < server
@@ -49,6 +52,16 @@ has_number setup (suc n) queue is some = omega arith
 -- and so its worker
 pub its_some : {d : Domain} {queue : ℕ} {desk : Desk} {slot : ServerSlot} → IsServing d queue slot desk → 0 < desk.caller.work.id.0
 its_some {d} {queue} {desk} {slot} serving = let number = serving.stands.tables.worker.number in let some = has_number d.setup slot.server.0 queue serving.its serving.some in omega (arith, number, some)
+
+-- how the request that the server took was sent last, as it saw that at its take or later
+pub hand_seen : {d : Domain} {queue : ℕ} {desk : Desk} {slot : ServerSlot} {t : Taken} {entry : Entry Cargo} → IsDesk d desk → IsServing d queue slot desk → IsTaken d queue t desk entry
+    → SawInHandAt d slot.server.0 desk (λ past. IsSomeAnd (latest (is_entry_of entry.request) past) (Brings entry.request entry.cargo.invocation))
+hand_seen {d} {queue} {desk} {slot} {t} {entry} is serving taken =
+    let clients = is.clients in
+    let number = serving.stands.tables.worker.number in
+    let took = taken.server in
+    let same : t.server.0 ≡ slot.server.0 = omega (arith, clients, number, took) in
+    subst (λ n. SawInHandAt d n desk (λ past. IsSomeAnd (latest (is_entry_of entry.request) past) (Brings entry.request entry.cargo.invocation))) same taken.last
 
 -- the slot's tables stand also where its worker saw a stamp
 pub tables_seeing : (slot : ServerSlot) (last : Stamp) (w : WorkState) → Tables slot w → Tables slot (seeing last w)

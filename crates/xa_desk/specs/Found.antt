@@ -13,7 +13,7 @@ use Rattle.xa_server.specs.xa_events.Board.{boot, published, listed_in}
 use Rattle.xa_server.specs.xa_events.Homes.Home.{BoardHome, QueueHome}
 use Rattle.xa_server.specs.xa_events.Queue.{is_down, is_closed, waiting}
 use Rattle.xa_server.specs.xa_events.Cases.{RowStands, RowAdmits}
-use Rattle.xa_server.specs.xa_worker.Seen.{past_in, SawFront, SawQueue, SawSince}
+use Rattle.xa_server.specs.xa_worker.Seen.{past_in, SawFront, SawQueue, SawSince, SawInHand}
 use Rattle.xa_server.specs.xa_queue.declared.entry.Entry.{Entry}
 use Rattle.xa_server.specs.xa_queue.declared.queue.Refusal.{Refusal}
 use Rattle.xa_server.specs.xa_queue.declared.queue.Refusal.TheVariants as refusals
@@ -42,6 +42,11 @@ SawAtQueue d queue desk P = (whole : Whole) → GoesOn d whole desk → (stamp :
 abbrev pub SawItsOwnAt : Domain → ℕ → Desk → (List Event → Type 0) → Type 0
 SawItsOwnAt d queue desk P = (whole : Whole) → GoesOn d whole desk → (stamp : Stamp) → desk.caller.work.stamp.0 < stamp.0
     → SawSince d.setup d.clients (entries_of whole) stamp desk.caller.work.id.0 queue P (past_in desk.caller.work.own)
+
+-- and so it is of the queue of that server, whose desk it is, up to its last take of a request
+abbrev pub SawInHandAt : Domain → ℕ → Desk → (List Event → Type 0) → Type 0
+SawInHandAt d server desk P = (whole : Whole) → GoesOn d whole desk → (stamp : Stamp) → desk.caller.work.stamp.0 < stamp.0
+    → SawInHand d.setup d.clients (entries_of whole) stamp server P (past_in desk.caller.work.own)
 
 -- the rows of the service that were found are those that the version lists, which is no older than the boot's and what the caller read, and was seen, and
 -- each of them stands there

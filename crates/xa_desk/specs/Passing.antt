@@ -18,7 +18,7 @@ use Rattle.xa_server.specs.declared.slot.ServerSlot.{ServerSlot}
 use Rattle.xa_server.specs.Forwarding.{IsOnWay, forwarded_by}
 use Rattle.xa_desk.specs.declared.domain.Domain.{Domain}
 use Rattle.xa_desk.specs.declared.desk.Desk.{Desk}
-use Rattle.xa_desk.specs.Found.{HasFound, SawItsOwnAt}
+use Rattle.xa_desk.specs.Found.{HasFound, SawInHandAt}
 use Rattle.xa_desk.specs.Serving.{IsServing, IsToTell}
 
 -- the slot with that entry in hand
@@ -26,7 +26,7 @@ abbrev pub holding : Entry Cargo → ServerSlot → ServerSlot
 holding entry slot = record slot { hand = Some entry }
 
 -- the request of the server is out, as that entry, to be put by that event on the queue of one of the rows that were found; as its hand had it, the
--- server was at its queue, which was seen to have got the request so that it may be forwarded, with all that the worker noted there
+-- server was at its queue, which was seen to have got the request so that it may be forwarded, at its take or later
 pub record IsPassing (d : Domain) (queue : ℕ) (entry : Entry Cargo) (event : Event) (slot : ServerSlot) (desk : Desk) : Type 0 where
   pub serving : IsServing d queue (holding entry slot) desk
   pub way : IsOnWay entry event slot desk.caller
@@ -37,7 +37,7 @@ pub record IsPassing (d : Domain) (queue : ℕ) (entry : Entry Cargo) (event : E
   pub accepts : is_accepted d.setup row.accepts (kind_of entry.cargo.invocation.payload) ≡ true
   pub entry_is : entry ≡ entry_behind entry.cargo.invocation.hop entry.request row desk.caller.priority entry.cargo.invocation.payload entry.cargo.ticket
   pub event_is : event ≡ Forward (forwarded_by slot entry.request entry.cargo.invocation.hop desk.reader.found.version row desk.caller.priority entry.cargo.invocation.payload)
-  pub sent : SawItsOwnAt d queue desk (λ past. IsSomeAnd (latest (is_entry_of entry.request) past) (Forwardable entry.cargo.invocation.hop))
+  pub sent : SawInHandAt d slot.server.0 desk (λ past. IsSomeAnd (latest (is_entry_of entry.request) past) (Forwardable entry.cargo.invocation.hop))
 
 -- the queue that the event sends a request to
 abbrev pub forwarded_to : Event → ℕ

@@ -17,6 +17,7 @@ use Rattle.xa_server.specs.xa_events.Request.Settlement.{SweptAway}
 use Rattle.xa_server.specs.xa_events.Words.{latest}
 use Rattle.xa_server.specs.xa_events.Queue.{is_closed, is_down, waiting}
 use Rattle.xa_server.specs.xa_events.Server.{is_gone, AllGone}
+use Rattle.xa_server.specs.xa_events.State.{caller_of}
 use Rattle.xa_server.specs.xa_events.Homes.Home.{BoardHome, QueueHome}
 use Rattle.xa_server.specs.xa_stamp.Home.{last_stamp}
 use Rattle.xa_server.specs.xa_worker.Crew.{IsOfDomain, no_stamp}
@@ -50,7 +51,7 @@ use Rattle.xa_desk.specs.declared.serving.Took.TheVariants as takes
 use Rattle.xa_desk.specs.Whole.{Whole, entries_of}
 use Rattle.xa_desk.specs.Deserted.{GaveUpLast}
 use Rattle.xa_desk.specs.Desks.{GoesOn, queue_page}
-use Rattle.xa_desk.specs.Found.{SawAtQueue, SawItsOwnAt}
+use Rattle.xa_desk.specs.Found.{SawAtQueue, SawInHandAt}
 
 -- if no request was sent to the queue while it waited there, what its events say of the request came last of its entries there
 abbrev pub IsSentLast : Setup → ℕ → RequestId → Invocation → List Event → Type 0
@@ -68,12 +69,13 @@ pub record WasSentFor (setup : Setup) (queue : ℕ) (entries : List Stamped) (t 
 abbrev pub IsSentFor : Domain → ℕ → Desk → Taken → Invocation → Type 0
 IsSentFor d queue desk t what = (whole : Whole) → GoesOn d whole desk → WasSentFor d.setup queue (entries_of whole (QueueHome queue)) t what
 
--- the entry of that take is to be answered by a cell of the domain, and says how its request was sent to the queue last, before the take and with all
--- that the worker noted there
+-- the desk's server took the request of that entry, which says how it was sent to the queue last before the take, and so the worker saw it there, at its
+-- take or later
 pub record IsTaken (d : Domain) (queue : ℕ) (t : Taken) (desk : Desk) (entry : Entry Cargo) : Type 0 where
   pub its : t.request ≡ entry.request
+  pub server : caller_of d.clients t.server.0 ≡ desk.caller.work.id.0
   pub sent : IsSentFor d queue desk t entry.cargo.invocation
-  pub last : SawItsOwnAt d queue desk (λ past. IsSomeAnd (latest (is_entry_of entry.request) past) (Brings entry.request entry.cargo.invocation))
+  pub last : SawInHandAt d t.server.0 desk (λ past. IsSomeAnd (latest (is_entry_of entry.request) past) (Brings entry.request entry.cargo.invocation))
 
 -- the desk is that of the server of the slot, whose queue has that number; the request in hand, if there is one, is to be answered by a cell of the
 -- domain

@@ -1,7 +1,7 @@
 -- How a request was sent last is known at the queue where it waits, or from which its server took it.
-use Rattle.std.proofs.Common.{◌≡◌, ℕ, ◌+◌, ◌≤◌, ◌==◌, Bool, true, false, cond, List, [], ◌∷◌, Option, Some, None, inl, inr, refl, sym, ◌∙◌, ap, subst, arith, eq-eqb, eqb-true, option_map}
+use Rattle.std.proofs.Common.{◌≡◌, ℕ, ◌+◌, Bool, true, false, cond, List, [], ◌∷◌, Option, Some, None, inl, inr, refl, sym, ◌∙◌, ap, subst, arith, eq-eqb, eqb-true, option_map}
 use Rattle.std.specs.Prelude.{IsSomeAnd}
-use Rattle.std.proofs.lemmas.Bool.{cases_Bool, cond_both, and_from}
+use Rattle.std.proofs.lemmas.Bool.{cases_Bool, cond_both}
 use Rattle.xa_types.specs.declared.ids.RequestId.{RequestId}
 use Rattle.xa_types.specs.declared.ids.Generation.{Generation}
 use Rattle.xa_types.specs.declared.setup.Setup.{Setup}
@@ -14,8 +14,8 @@ use Rattle.xa_events.specs.declared.event.Outcome.{Outcome}
 use Rattle.xa_events.specs.declared.event.Outcome.TheVariants.{Died}
 use Rattle.xa_events.specs.declared.event.Doing.TheVariants.{Busy}
 use Rattle.xa_events.specs.Words.{latest, count, IsEarlier}
-use Rattle.xa_events.specs.State.{State, noted, opening, caller_of}
-use Rattle.xa_events.specs.Homes.{Home, at_home, is_own_at}
+use Rattle.xa_events.specs.State.{State, noted, opening}
+use Rattle.xa_events.specs.Homes.{Home, at_home, is_take_by}
 use Rattle.xa_events.specs.Homes.Home.{QueueHome}
 use Rattle.xa_events.specs.Server.{moves_server, doing, doing_after}
 use Rattle.xa_events.specs.Caller.{is_conversational}
@@ -48,7 +48,7 @@ pub record IsKnown (s : State) : Type 0 where
   pub agree : Agree s
   pub placed : (r : RequestId) → Placed s.setup s.clients r s.past (stage r s.past)
   pub seen : (server : ℕ) (generation : Generation) (r : RequestId) → doing server s.past ≡ Busy generation r → (moment : List Event) → IsEarlier moment s.past
-      → count (is_own_at s.setup s.clients (caller_of s.clients server) (queue_of s.setup server)) moment ≡ count (is_own_at s.setup s.clients (caller_of s.clients server) (queue_of s.setup server)) s.past
+      → count (is_take_by server) moment ≡ count (is_take_by server) s.past
       → latest (is_entry_of r) (home_events s.setup s.clients (QueueHome (queue_of s.setup server)) moment) ≡ latest (is_entry_of r) s.past
   pub shows : (r : RequestId) → Shows r s.past (latest (is_entry_of r) s.past)
 
@@ -121,37 +121,36 @@ module _ (s : State) (e : Event) (case : Case s e) (known : IsKnown s) where
   itself (x ∷ es) = inl refl
 
   module _ (server : ℕ) (generation : Generation) (r : RequestId) where
-    abbrev own : Event → Bool
-    own = is_own_at s.setup s.clients (caller_of s.clients server) (queue_of s.setup server)
+    abbrev taken : Event → Bool
+    taken = is_take_by server
 
     abbrev queue : ℕ
     queue = queue_of s.setup server
 
-    -- the take that makes it busy: a moment that has all of its events has the take
-    by_take : (moment : List Event) → is_entry_of r e ≡ false → own e ≡ true → stage r past ≡ Waits queue → IsEarlier moment (e ∷ past) → count own moment ≡ count own (e ∷ past)
+    -- the take that makes it busy: a moment that has all of its takes has this one
+    by_take : (moment : List Event) → is_entry_of r e ≡ false → taken e ≡ true → stage r past ≡ Waits queue → IsEarlier moment (e ∷ past) → count taken moment ≡ count taken (e ∷ past)
         → latest (is_entry_of r) (home queue moment) ≡ latest (is_entry_of r) (e ∷ past)
     by_take moment none mine waits (inl is) same =
         let there = subst (Placed s.setup s.clients r past) waits (known.placed r) in
         ap (λ es. latest (is_entry_of r) (home queue es)) is ∙ (same_last s.setup s.clients (QueueHome queue) r e past none ∙ (there ∙ sym (latest_no (is_entry_of r) e past none)))
-    by_take moment none mine waits (inr older) same = absurd (omega (arith, counts_earlier own moment past older, count_yes own e past mine, same))
+    by_take moment none mine waits (inr older) same = absurd (omega (arith, counts_earlier taken moment past older, count_yes taken e past mine, same))
 
-    by_other : (moment : List Event) → is_entry_of r e ≡ false → doing server past ≡ Busy generation r → IsEarlier moment (e ∷ past) → count own moment ≡ count own (e ∷ past)
+    by_other : (moment : List Event) → is_entry_of r e ≡ false → doing server past ≡ Busy generation r → IsEarlier moment (e ∷ past) → count taken moment ≡ count taken (e ∷ past)
         → latest (is_entry_of r) (home queue moment) ≡ latest (is_entry_of r) (e ∷ past)
     by_other moment none busy (inl is) same =
         ap (λ es. latest (is_entry_of r) (home queue es)) is ∙ (same_last s.setup s.clients (QueueHome queue) r e past none ∙ (known.seen server generation r busy past (itself past) refl ∙ sym (latest_no (is_entry_of r) e past none)))
     by_other moment none busy (inr older) same =
-        let all : count own moment ≡ count own past = omega (arith, counts_earlier own moment past older, count_grows own e past, same) in
+        let all : count taken moment ≡ count taken past = omega (arith, counts_earlier taken moment past older, count_grows taken e past, same) in
         known.seen server generation r busy moment older all ∙ sym (latest_no (is_entry_of r) e past none)
 
-    busy_by : (x : Event) → x ≡ e → moves_server server x ≡ true → doing_after (Some x) ≡ Busy generation r → (is_entry_of r e ≡ false) × (own e ≡ true) × (stage r past ≡ Waits queue)
+    busy_by : (x : Event) → x ≡ e → moves_server server x ≡ true → doing_after (Some x) ≡ Busy generation r → (is_entry_of r e ≡ false) × (taken e ≡ true) × (stage r past ≡ Waits queue)
     busy_by (Take t) same of is =
         let its : t.server.0 ≡ server = eqb-true t.server.0 server of in
         let case : Case s (Take t) = subst (λ x. Case s x) (sym same) case in
         let waits = subst (λ (q : RequestId). stage q past ≡ Waits (queue_of s.setup t.server.0)) (cc is) (known.agree.waits (queue_of s.setup t.server.0) t.request case.home.waits) in
-        subst (λ x. (is_entry_of r x ≡ false) × (own x ≡ true) × (stage r past ≡ Waits queue)) same (
+        subst (λ x. (is_entry_of r x ≡ false) × (taken x ≡ true) × (stage r past ≡ Waits queue)) same (
           refl,
-          and_from (queue_of s.setup t.server.0 == queue) (caller_of s.clients t.server.0 == caller_of s.clients server) (eq-eqb (queue_of s.setup t.server.0) queue (ap (queue_of s.setup) its))
-              (eq-eqb (caller_of s.clients t.server.0) (caller_of s.clients server) (ap (caller_of s.clients) its)),
+          of,
           waits ∙ ap (λ n. Waits (queue_of s.setup n)) its,
         )
     busy_by (End x) same of is = absurd (not_busy_after x.outcome x.generation is)
@@ -178,8 +177,8 @@ module _ (s : State) (e : Event) (case : Case s e) (known : IsKnown s) where
             cc (m, n)
         held x same y = let z = subst (λ w. is_entry_of r w ≡ true) (sym same) y in cc z
 
-    pub seen_more : doing server (e ∷ past) ≡ Busy generation r → (moment : List Event) → IsEarlier moment (e ∷ past) → count own moment ≡ count own (e ∷ past) → latest (is_entry_of r) (home queue moment) ≡ latest (is_entry_of r) (e ∷ past)
-    seen_more = doing_both server e past (λ d. d ≡ Busy generation r → (moment : List Event) → IsEarlier moment (e ∷ past) → count own moment ≡ count own (e ∷ past) → latest (is_entry_of r) (home queue moment) ≡ latest (is_entry_of r) (e ∷ past))
+    pub seen_more : doing server (e ∷ past) ≡ Busy generation r → (moment : List Event) → IsEarlier moment (e ∷ past) → count taken moment ≡ count taken (e ∷ past) → latest (is_entry_of r) (home queue moment) ≡ latest (is_entry_of r) (e ∷ past)
+    seen_more = doing_both server e past (λ d. d ≡ Busy generation r → (moment : List Event) → IsEarlier moment (e ∷ past) → count taken moment ≡ count taken (e ∷ past) → latest (is_entry_of r) (home queue moment) ≡ latest (is_entry_of r) (e ∷ past))
         (λ y is moment. let b = busy_by e refl y is in by_take moment b.0 b.1 b.2)
         (λ n is moment. by_other moment (no_entry is n) is)
 

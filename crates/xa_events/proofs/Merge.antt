@@ -24,7 +24,7 @@ use Rattle.xa_types.specs.Setup.{queue_of, capacity_of, service_named}
 use Rattle.xa_types.specs.declared.setup.ServiceSetup.{ServiceSetup}
 use Rattle.std.specs.Str.{bytes_eq}
 use Rattle.xa_events.specs.declared.event.Doing.{Doing}
-use Rattle.xa_events.specs.declared.event.Doing.TheVariants.{Off, Idle, Busy, Dying}
+use Rattle.xa_events.specs.declared.event.Doing.TheVariants.{Busy}
 use Rattle.xa_events.specs.declared.event.Event.{Event}
 use Rattle.xa_events.specs.declared.event.Event.TheVariants.{Advertise, Withdraw, Accept, Take, Forward, Sweep, Gone, Down, Close, Start, StartFailed, End, Stop, Tick, Answer, Cancel, Lapse, NotYet, Refuse, Leave, Priority, Send, Receive, Break}
 use Rattle.xa_events.specs.declared.event.Started.{Started}
@@ -664,7 +664,7 @@ module _ (setup : Setup) (clients : ℕ) (past : List Event) (homes : (home : Ho
   forwardable : (f : Forwarded) → (doing f.server.0 past ≡ Busy f.generation f.request) → SawForwardable setup clients f past → ForwardBefore setup f past
   forwardable f busy saw =
       let sent = saw.sent in
-      let same = known.seen f.server.0 f.generation f.request busy sent.moment sent.stood sent.own in
+      let same = known.seen f.server.0 f.generation f.request busy sent.moment sent.stood sent.taken in
       shown_forwardable setup f past saw.row (known.shows f.request) (subst (λ (o : Option Event). IsSomeAnd o (Forwardable f.hop)) same sent.held)
 
   named_now : (e : Event) → HomePart setup e past → WorkerPart setup clients e past → SeenBefore setup clients e past → NamedBefore setup clients e past

@@ -97,6 +97,18 @@ of_worker clients worker e = worker_of clients e == worker
 abbrev pub is_own_at : Setup → ℕ → ℕ → ℕ → Event → Bool
 is_own_at setup clients worker queue e = at_home setup clients (QueueHome queue) e && of_worker clients worker e
 
+-- the event is that server's take of a request
+abbrev pub is_take_by : ℕ → Event → Bool
+is_take_by server (Take t) = t.server.0 == server
+is_take_by server e = false
+
+-- P held of the events of the server's queue at a moment not before it last took a request
+pub record HeldInHand (setup : Setup) (clients server : ℕ) (P : List Event → Type 0) (past : List Event) : Type 0 where
+  pub moment : List Event
+  pub stood : IsEarlier moment past
+  pub taken : count (is_take_by server) moment ≡ count (is_take_by server) past
+  pub held : P (filter (at_home setup clients (QueueHome (queue_of setup server))) moment)
+
 -- P held of the queue's events at a moment not before the worker's last event there
 pub record HeldSince (setup : Setup) (clients worker queue : ℕ) (P : List Event → Type 0) (past : List Event) : Type 0 where
   pub moment : List Event

@@ -9,8 +9,7 @@ use Rattle.xa_events.specs.declared.event.Event.TheVariants.{Accept, Forward, Do
 use Rattle.xa_events.specs.declared.event.Forwarded.{Forwarded}
 use Rattle.xa_events.specs.declared.event.StopCause.TheVariants.{Shutdown}
 use Rattle.xa_events.specs.Words.{latest, AtEach, IsEarlier}
-use Rattle.xa_events.specs.State.{caller_of}
-use Rattle.xa_events.specs.Homes.{Home, at_home, of_worker, HeldSince}
+use Rattle.xa_events.specs.Homes.{Home, at_home, of_worker, HeldInHand}
 use Rattle.xa_events.specs.Homes.Home.{BoardHome, QueueHome}
 use Rattle.xa_events.specs.Board.{boot, published}
 use Rattle.xa_events.specs.Server.{AllGone}
@@ -46,10 +45,10 @@ Forwardable hop (Accept a) = (is_conversational a.mode ≡ false) × (hop ≡ 1)
 Forwardable hop (Forward f) = hop ≡ f.hop + 1
 Forwardable hop _ = ⊥
 
--- the row stands, and the server saw at its own queue, where it took the request, how that was sent last
+-- the row stands, and the server saw at its own queue, when it took the request or later, how that was sent last
 pub record SawForwardable (setup : Setup) (clients : ℕ) (f : Forwarded) (past : List Event) : Type 0 where
   pub row : RowStands setup f.version f.service f.queue.0 (RowAdmits setup false f.routine f.payload) past
-  pub sent : HeldSince setup clients (caller_of clients f.server.0) (queue_of setup f.server.0) (λ moment. IsSomeAnd (latest (is_entry_of f.request) moment) (Forwardable f.hop)) past
+  pub sent : HeldInHand setup clients f.server.0 (λ moment. IsSomeAnd (latest (is_entry_of f.request) moment) (Forwardable f.hop)) past
 
 -- what the event names of other homes, as it was seen
 abbrev pub SeenBefore : Setup → ℕ → Event → List Event → Type 0

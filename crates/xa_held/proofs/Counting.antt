@@ -1,11 +1,11 @@
 -- How many events of its maker a page of a queue knows.
 use Rattle.std.proofs.Common.{◌≡◌, ◌≢◌, ℕ, ◌+◌, ◌==◌, Bool, true, false, cond, List, [], ◌∷◌, ◌++◌, inl, inr, refl, sym, ◌∙◌, ap, arith, eq-eqb}
 use Rattle.std.specs.List.{All, filter}
-use Rattle.std.proofs.lemmas.Bool.{cases_Bool, and_parts}
+use Rattle.std.proofs.lemmas.Bool.{cases_Bool}
 use Rattle.std.proofs.lemmas.List.Elements.{All-head, All-tail}
 use Rattle.xa_types.specs.declared.setup.Setup.{Setup}
 use Rattle.xa_events.specs.declared.event.Event.{Event}
-use Rattle.xa_events.specs.Homes.{of_worker, at_home, is_own_at}
+use Rattle.xa_events.specs.Homes.{at_home}
 use Rattle.xa_events.specs.Homes.Home.{QueueHome}
 use Rattle.xa_events.specs.Words.{count}
 use Rattle.xa_stamp.specs.declared.home.Stamped.{Stamped}
@@ -17,7 +17,7 @@ use Rattle.xa_worker.specs.Crew.{stands_at}
 use Rattle.xa_worker.specs.Seen.{past_in}
 use Rattle.xa_worker.proofs.Lists.{filter-yes, filter-no, past_in-append, past_in-filter, count_part}
 
-count_append : {X : Type 0} (p : X → Bool) (xs ys : List X) → count p (xs ++ ys) ≡ count p xs + count p ys
+pub count_append : {X : Type 0} (p : X → Bool) (xs ys : List X) → count p (xs ++ ys) ≡ count p xs + count p ys
 count_append p [] ys = omega arith
 count_append p (x ∷ xs) ys = elim (cases_Bool (p x)) [
   | inl y ↦ let rest = count_append p xs ys in ap (λ b. cond b (count p (xs ++ ys) + 1) (count p (xs ++ ys))) y ∙ (let here : count p (x ∷ xs) ≡ count p xs + 1 = ap (λ b. cond b (count p xs + 1) (count p xs)) y in omega (arith, rest, here))
@@ -44,15 +44,14 @@ count_by p maker (e ∷ entries) others =
     eqb-self : (a b : ℕ) → a ≡ b → (a == b) ≡ true
     eqb-self a b same = eq-eqb a b same
 
--- the events of a worker at a queue, among all that it noted
-count_there : (setup : Setup) (clients worker queue : ℕ) (own : List Stamped) → count (is_own_at setup clients worker queue) (past_in (filter (stands_at setup clients (QueueHome queue)) own)) ≡ count (is_own_at setup clients worker queue) (past_in own)
-count_there setup clients worker queue own =
+-- the events at a queue, among all that a worker noted
+count_there : (setup : Setup) (clients queue : ℕ) (test : Event → Bool) → ((e : Event) → test e ≡ true → at_home setup clients (QueueHome queue) e ≡ true) → (own : List Stamped) → count test (past_in (filter (stands_at setup clients (QueueHome queue)) own)) ≡ count test (past_in own)
+count_there setup clients queue test there own =
     let here : Event → Bool = at_home setup clients (QueueHome queue) in
-    ap (count (is_own_at setup clients worker queue)) (sym (past_in-filter here own)) ∙ count_part (is_own_at setup clients worker queue) here (λ e both. (and_parts (here e) (of_worker clients worker e) both).0) (past_in own)
+    ap (count test) (sym (past_in-filter here own)) ∙ count_part test here there (past_in own)
 
 -- a page whose maker noted so much there knows as many of its events as stand there, where no other noted such
-pub own_counted : (setup : Setup) (clients worker queue : ℕ) (p : Page Made) (entries : List Made) (noted : List Stamped) → p.maker ≡ worker → Knows made_maker p entries → noted_in p.own ≡ filter (stands_at setup clients (QueueHome queue)) noted
-    → All (λ (e : Made). made_maker e ≢ worker → is_own_at setup clients worker queue e.noted.event ≡ false) entries → count (is_own_at setup clients worker queue) (past_in (noted_in entries)) ≡ count (is_own_at setup clients worker queue) (past_in noted)
-own_counted setup clients worker queue p entries noted maker knows own others =
-    let test : Event → Bool = is_own_at setup clients worker queue in
-    count_by test worker entries others ∙ ap (λ n. count test (past_in (noted_in (entries_by made_maker n entries)))) (sym maker) ∙ ap (λ l. count test (past_in (noted_in l))) knows.0 ∙ ap (λ l. count test (past_in l)) own ∙ count_there setup clients worker queue noted
+pub own_counted : (setup : Setup) (clients worker queue : ℕ) (test : Event → Bool) → ((e : Event) → test e ≡ true → at_home setup clients (QueueHome queue) e ≡ true) → (p : Page Made) (entries : List Made) (noted : List Stamped) → p.maker ≡ worker → Knows made_maker p entries → noted_in p.own ≡ filter (stands_at setup clients (QueueHome queue)) noted
+    → All (λ (e : Made). made_maker e ≢ worker → test e.noted.event ≡ false) entries → count test (past_in (noted_in entries)) ≡ count test (past_in noted)
+own_counted setup clients worker queue test there p entries noted maker knows own others =
+    count_by test worker entries others ∙ ap (λ n. count test (past_in (noted_in (entries_by made_maker n entries)))) (sym maker) ∙ ap (λ l. count test (past_in (noted_in l))) knows.0 ∙ ap (λ l. count test (past_in l)) own ∙ count_there setup clients queue test there noted

@@ -1,5 +1,5 @@
 -- What was seen with smaller stamps stands before in the merge.
-use Rattle.std.proofs.Common.{◌≡◌, ◌⊎◌, ℕ, suc, ◌-◌, if◌then◌else◌, ◌<◌, ◌≤◌, ◌==◌, Bool, true, false, cond, List, [], ◌∷◌, ◌++◌, length, drop, Option, Some, None, inl, inr, refl, sym, ◌∙◌, ap, subst, arith, append_assoc, leb-true, leb-false, if◌then◌else◌}
+use Rattle.std.proofs.Common.{◌≡◌, ◌⊎◌, ℕ, suc, ◌-◌, if◌then◌else◌, ◌<◌, ◌≤◌, ◌==◌, Bool, true, false, cond, List, [], ◌∷◌, ◌++◌, length, drop, Option, Some, None, inl, inr, refl, sym, ◌∙◌, ap, subst, arith, append_assoc, eq-eqb, eqb-true, leb-true, leb-false, if◌then◌else◌}
 use Rattle.std.specs.Prelude.{IsSomeAnd, ◌&&◌, nat_le}
 use Rattle.std.specs.List.{All, filter, list_any, cons_option}
 use Rattle.std.proofs.lemmas.Bool.{cases_Bool, or_left, or_right, or_cases, and_parts}
@@ -17,7 +17,7 @@ use Rattle.xa_events.specs.declared.event.Evidence.{Evidence}
 use Rattle.xa_events.specs.declared.event.Evidence.TheVariants.{Version, AllDown, Clock as ClockShown, Queue, Deadline, Rows, Routine, NoRow, Conversation, Ended}
 use Rattle.xa_events.specs.Words.{latest, count, AtEach, IsEarlier, Was, greatest}
 use Rattle.xa_events.specs.State.{caller_of}
-use Rattle.xa_events.specs.Homes.{Home, worker_of, at_home, of_worker, is_own_at, HeldSince, home_of}
+use Rattle.xa_events.specs.Homes.{Home, worker_of, at_home, of_worker, is_own_at, is_take_by, HeldSince, HeldInHand, home_of}
 use Rattle.xa_events.specs.Homes.Home.{BoardHome, QueueHome, ClockHome, CallerHome}
 use Rattle.xa_events.specs.Board.{change_in, changes, published, boot, rows_of_version, listed_in}
 use Rattle.xa_events.specs.Queue.{waiting}
@@ -40,7 +40,7 @@ use Rattle.xa_events.proofs.Owns.{end_own, end_here}
 use Rattle.xa_events.proofs.WordsLemmas.{some_weaker}
 use Rattle.xa_stamp.specs.declared.home.Stamped.{Stamped}
 use Rattle.xa_lock.specs.Pages.{StartsWith}
-use Rattle.xa_worker.specs.Seen.{past_in, SawFront, IsNew, SawQueue, SawEntry, SawSince, SawEvidence, SawFronts, WasTold, IsBehind, SawLast, SawDeserted, SawRows, SawBegan, SawSome, ToldEvidence}
+use Rattle.xa_worker.specs.Seen.{past_in, SawFront, IsNew, SawQueue, SawEntry, SawSince, SawInHand, SawEvidence, SawFronts, WasTold, IsBehind, SawLast, SawDeserted, SawRows, SawBegan, SawSome, ToldEvidence}
 use Rattle.xa_worker.specs.Crew.{IsBooted, IsOfDomain, stands_at}
 use Rattle.xa_worker.proofs.Lists.{filter-yes, past_in-append, past_in-filter, AtEach-later, earlier_behind, count_part, earlier_whole, filter-no, same_home-is}
 use Rattle.xa_worker.proofs.Placed.{Climbs, IsMergeOf}
@@ -260,6 +260,18 @@ earlier_each P seen [] is all = subst (AtEach P) (sym is) all
 earlier_each P seen (e ∷ now) (inl is) all = subst (AtEach P) (sym is) all
 earlier_each P seen (e ∷ now) (inr older) all = earlier_each P seen now older all.1
 
+-- ---- a server's takes
+
+-- each stands at its queue
+pub take_at_queue : (setup : Setup) (clients server : ℕ) (e : Event) → is_take_by server e ≡ true → at_home setup clients (QueueHome (queue_of setup server)) e ≡ true
+take_at_queue setup clients server (Take t) h = eq-eqb (queue_of setup t.server.0) (queue_of setup server) (ap (queue_of setup) (eqb-true t.server.0 server h))
+take_at_queue setup clients server _ h = absurd (cc h)
+
+-- and is its own worker's
+pub take_by_worker : (clients server : ℕ) (e : Event) → is_take_by server e ≡ true → of_worker clients (caller_of clients server) e ≡ true
+take_by_worker clients server (Take t) h = eq-eqb (caller_of clients t.server.0) (caller_of clients server) (ap (caller_of clients) (eqb-true t.server.0 server h))
+take_by_worker clients server _ h = absurd (cc h)
+
 -- ---- one event of the merge
 
 module _ (setup : Setup) (clients : ℕ) (held : Home → List Stamped) (merged : List Stamped) (events : List Event) (m : IsMergeOf setup clients held merged events)
@@ -390,6 +402,23 @@ module _ (setup : Setup) (clients : ℕ) (held : Home → List Stamped) (merged 
         stood = w.1;
         own = sym (count_part mine (at_home setup clients (QueueHome queue)) at_queue w.0) ∙ (ap (count mine) w.2 ∙ (saw.shows.1
             ∙ (sym (count_part mine (of_worker clients worker) by_it own) ∙ (ap (count mine) same ∙ count_part mine (of_worker clients worker) by_it past))));
+        held = subst P (sym w.2) (saw.shows.0 (new_front news queue saw.front saw.stands saw.before));
+      }
+
+  -- what was seen of a server's queue where its last take of a request stood
+  pub since_take : NewIn setup clients past → (server : ℕ) (P : List Event → Type 0) (own : List Event) → worker_events clients (caller_of clients server) own ≡ worker_events clients (caller_of clients server) past
+      → SawInHand setup clients held x.stamp server P own → HeldInHand setup clients server P past
+  since_take news server P own same saw =
+      let its = is_take_by server in
+      let queue = queue_of setup server in
+      let at_queue = at_home setup clients (QueueHome queue) in
+      let by_it = of_worker clients (caller_of clients server) in
+      let w = earlier_whole at_queue (past_in saw.front) past (stood (QueueHome queue) saw.front saw.stands saw.before) in
+      record {
+        moment = w.0;
+        stood = w.1;
+        taken = sym (count_part its at_queue (take_at_queue setup clients server) w.0) ∙ (ap (count its) w.2 ∙ (saw.shows.1
+            ∙ (sym (count_part its by_it (take_by_worker clients server) own) ∙ (ap (count its) same ∙ count_part its by_it (take_by_worker clients server) past))));
         held = subst P (sym w.2) (saw.shows.0 (new_front news queue saw.front saw.stands saw.before));
       }
 
@@ -525,7 +554,7 @@ module _ (setup : Setup) (clients : ℕ) (held : Home → List Stamped) (merged 
   seen_so news (Forward f) own (inr domain) saw told = absurd domain
   seen_so news (Forward f) own (inl is) saw told = record {
     row = stands_now f.version f.service f.queue.0 (RowAdmits setup false f.routine f.payload) saw.row;
-    sent = since news (caller_of clients f.server.0) (queue_of setup f.server.0) (λ moment. IsSomeAnd (latest (is_entry_of f.request) moment) (Forwardable f.hop)) own is saw.sent;
+    sent = since_take news f.server.0 (λ moment. IsSomeAnd (latest (is_entry_of f.request) moment) (Forwardable f.hop)) own is saw.sent;
   }
   seen_so news (Take t) own is saw told = tt
   seen_so news (Gone server) own is saw told = tt

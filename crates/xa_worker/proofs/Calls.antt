@@ -47,7 +47,7 @@ use Rattle.xa_worker.specs.Calls.{BeginsSo, AskRefusedOwn, AdvertiseRefusedOwn, 
 use Rattle.xa_worker.proofs.Lists.{filter-yes, past_in-filter}
 use Rattle.xa_worker.proofs.Owned.{twice, own_events, own_at, known_before, last_seen, hand_busy}
 use Rattle.xa_worker.proofs.Placed.{IsMergeOf}
-use Rattle.xa_worker.proofs.Before.{NewIn, new_before, now, saw_new, since, listed_now, rows_seen, settled, control_told}
+use Rattle.xa_worker.proofs.Before.{NewIn, new_before, now, saw_new, since, since_take, listed_now, rows_seen, settled, control_told}
 use Rattle.xa_worker.proofs.Workers.{Mounts, one_place, AtEach-from}
 
 -- ---- a call's event is its caller's
@@ -230,11 +230,11 @@ module _ (setup : Setup) (clients : ℕ) (held : Home → List Stamped) (merged 
     begun_same conversational by request is hand saw =
         let busy = hand_busy clients by.0 past request hand in
         let P : List Event → Type 0 = λ moment. IsSomeAnd (latest (is_entry_of request) moment) (BeginsSo conversational) in
-        let twice : worker_events clients by.0 its ≡ worker_events clients by.0 past = subst (λ n. worker_events clients n its ≡ worker_events clients n past) is filter-twice in
-        let held_so = since setup clients held merged events m before after x split new_here by.0 (queue_by setup clients by.0) P its twice saw in
+        let twice = subst (λ n. worker_events clients n its ≡ worker_events clients n past) (is ∙ sym busy.0) filter-twice in
+        let held_so = since_take setup clients held merged events m before after x split new_here (by.0 - clients) P its twice saw in
         let known = known_before setup clients merged before after x split cases in
         begun_from conversational request past (latest (is_entry_of request) past) (known.shows request)
-        (last_seen setup clients past known (by.0 - clients) busy.1.0 request busy.1.1 (BeginsSo conversational) (subst (λ (n : ℕ). HeldSince setup clients n (queue_by setup clients by.0) P past) (sym busy.0) held_so))
+        (last_seen setup clients past known (by.0 - clients) busy.1.0 request busy.1.1 (BeginsSo conversational) held_so)
 
     unconnected_so : (by : CallerId) (descriptor : ℕ) → caller ≡ by.0 → IsUnconnected clients by descriptor its (SawBegun setup clients held x.stamp false by its) → IsUnconnected clients by descriptor past (λ request. HasBegun false request past)
     unconnected_so by descriptor is (inl none) = inl (λ h. none (names_still by descriptor is h))

@@ -9,7 +9,7 @@ use Rattle.xa_types.specs.declared.ids.RequestId.{RequestId}
 use Rattle.xa_types.specs.declared.row.Row.{Row}
 use Rattle.xa_types.specs.declared.setup.Setup.{Setup}
 use Rattle.xa_types.specs.declared.stamp.Stamp.{Stamp}
-use Rattle.xa_types.specs.Setup.{numbered, queue_of}
+use Rattle.xa_types.specs.Setup.{numbered}
 use Rattle.xa_events.specs.declared.event.Event.{Event}
 use Rattle.xa_events.specs.declared.event.Event.TheVariants.{Accept, Forward, End}
 use Rattle.xa_events.specs.declared.event.Ended.{Ended}
@@ -41,7 +41,7 @@ use Rattle.xa_worker.specs.Orders.{AllNew}
 use Rattle.xa_worker.specs.Finishing.{IsSpent, SawSpent, SawFailing, ForwardEndsOwn, FitsFinishOwn, FinishedOwn}
 use Rattle.xa_worker.proofs.Lists.{past_in-filter, count_part}
 use Rattle.xa_worker.proofs.Placed.{IsMergeOf}
-use Rattle.xa_worker.proofs.Before.{NewIn, new_before, since, listed_now}
+use Rattle.xa_worker.proofs.Before.{NewIn, new_before, since, since_take, listed_now}
 use Rattle.xa_worker.proofs.Workers.{AtEach-from}
 use Rattle.xa_worker.proofs.Booted.{boot_some}
 use Rattle.xa_worker.proofs.Owned.{twice, own_events, own_at, cases_at, last_seen}
@@ -113,7 +113,7 @@ module _ (setup : Setup) (clients : ℕ) (held : Home → List Stamped) (merged 
   spent : (e : Ended) → End e ≡ x.event → e.server.0 ≡ server → SawSpent setup clients held x.stamp e its → FailsByRequest e.request past
   spent e here is saw =
       let P : List Event → Type 0 = λ moment. IsSomeAnd (latest (is_entry_of e.request) moment) IsSpent in
-      let held_so = since setup clients held merged events m before after x split new_here (caller_of clients e.server.0) (queue_of setup e.server.0) P its (its_twice e.server.0 is) saw in
+      let held_so = since_take setup clients held merged events m before after x split new_here e.server.0 P its (its_twice e.server.0 is) saw in
       let known = known_from setup clients past cases_here.1 in
       spent_from e.request past (latest (is_entry_of e.request) past) (known.shows e.request) (last_seen setup clients past known e.server.0 e.generation e.request (ends_busy e here) IsSpent held_so)
 

@@ -7,13 +7,12 @@ use Rattle.std.proofs.lemmas.List.Elements.{filter-append}
 use Rattle.xa_types.specs.declared.setup.Setup.{Setup}
 use Rattle.xa_types.specs.declared.ids.Generation.{Generation}
 use Rattle.xa_types.specs.declared.ids.RequestId.{RequestId}
-use Rattle.xa_types.specs.Setup.{queue_of}
 use Rattle.xa_events.specs.declared.event.Event.{Event}
 use Rattle.xa_events.specs.declared.event.Doing.{Doing}
 use Rattle.xa_events.specs.declared.event.Doing.TheVariants.{Off, Idle, Busy, Dying}
 use Rattle.xa_events.specs.Words.{latest, AtEach}
 use Rattle.xa_events.specs.State.{caller_of}
-use Rattle.xa_events.specs.Homes.{of_worker, HeldSince}
+use Rattle.xa_events.specs.Homes.{of_worker, HeldInHand}
 use Rattle.xa_events.specs.Server.{doing, held_in, in_hand}
 use Rattle.xa_events.specs.Request.{is_entry_of}
 use Rattle.xa_events.specs.Local.{worker_events}
@@ -98,9 +97,9 @@ known_before setup clients merged before after x split cases = known_from setup 
 
 -- how its request was sent last, by its own queue as by all events
 pub last_seen : (setup : Setup) (clients : ℕ) (past : List Event) → IsKnown (state setup clients past) → (server : ℕ) (generation : Generation) (request : RequestId) → doing server past ≡ Busy generation request
-    → (P : Event → Type 0) → HeldSince setup clients (caller_of clients server) (queue_of setup server) (λ moment. IsSomeAnd (latest (is_entry_of request) moment) P) past → IsSomeAnd (latest (is_entry_of request) past) P
+    → (P : Event → Type 0) → HeldInHand setup clients server (λ moment. IsSomeAnd (latest (is_entry_of request) moment) P) past → IsSomeAnd (latest (is_entry_of request) past) P
 last_seen setup clients past known server generation request busy P saw =
-    subst (λ (o : Option Event). IsSomeAnd o P) (known.seen server generation request busy saw.moment saw.stood saw.own) saw.held
+    subst (λ (o : Option Event). IsSomeAnd o P) (known.seen server generation request busy saw.moment saw.stood saw.taken) saw.held
 
 held_busy : (d : Doing) (request : RequestId) → held_in d ≡ Some request → (generation : Generation) × (d ≡ Busy generation request)
 held_busy Off request is = absurd (cc is)

@@ -1,5 +1,5 @@
 -- What a caller shows of its calls by its own events and by what it saw (this project's own).
-use Rattle.std.specs.Prelude.{◌≡◌, ◌⊎◌, ℕ, ◌+◌, ◌≤◌, ◌==◌, ◌&&◌, Bool, true, false, List, [], length, Option, Some, None, IsSomeAnd, map, reverse}
+use Rattle.std.specs.Prelude.{◌≡◌, ◌⊎◌, ℕ, ◌+◌, ◌-◌, ◌≤◌, ◌==◌, ◌&&◌, Bool, true, false, List, [], length, Option, Some, None, IsSomeAnd, map, reverse}
 use Rattle.std.specs.List.{All, list_any}
 use Rattle.xa_types.specs.declared.call.Op.{Op}
 use Rattle.xa_types.specs.declared.call.Op.TheVariants.{Call, Acall, Get, GetAny, Tick as TickOp, Advertise as AdvertiseOp, Unadvertise, Connect, Send as SendOp, Receive as ReceiveOp}
@@ -35,7 +35,7 @@ use Rattle.xa_events.specs.Local.{worker_events}
 use Rattle.xa_events.specs.Request.{settlement_in, is_entry_of}
 use Rattle.xa_events.specs.Words.{latest, AtEach}
 use Rattle.xa_stamp.specs.declared.home.Stamped.{Stamped}
-use Rattle.xa_worker.specs.Seen.{past_in, SawFront, SawQueue, SawEntry, SawSince, SawRows, StandsBehind, SawBegan}
+use Rattle.xa_worker.specs.Seen.{past_in, SawFront, SawQueue, SawEntry, SawSince, SawInHand, SawRows, StandsBehind, SawBegan}
 
 -- the request was sent so that it began a conversation, or didn't; what began one isn't forwarded
 abbrev pub BeginsSo : Bool → Event → Type 0
@@ -87,7 +87,7 @@ module _ (setup : Setup) (clients : ℕ) (entries : Home → List Stamped) (stam
 
   -- the server saw at its own queue, where it took the request, that this began a conversation, or didn't
   abbrev pub SawBegun : Bool → CallerId → List Event → RequestId → Type 0
-  SawBegun conversational caller own request = SawSince setup clients entries stamp caller.0 (queue_by setup clients caller.0) (λ past. IsSomeAnd (latest (is_entry_of request) past) (BeginsSo conversational)) own
+  SawBegun conversational caller own request = SawInHand setup clients entries stamp (caller.0 - clients) (λ past. IsSomeAnd (latest (is_entry_of request) past) (BeginsSo conversational)) own
 
   -- a change of the board is refused so, by a version that was seen
   abbrev pub AdvertiseRefusedOwn : CallerId → List ℕ → List ℕ → Fault → Evidence → List Event → Type 0

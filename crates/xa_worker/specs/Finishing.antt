@@ -5,7 +5,7 @@ use Rattle.xa_types.specs.declared.data.Data.{Data}
 use Rattle.xa_types.specs.declared.row.Row.{Row}
 use Rattle.xa_types.specs.declared.setup.Setup.{Setup}
 use Rattle.xa_types.specs.declared.stamp.Stamp.{Stamp}
-use Rattle.xa_types.specs.Setup.{numbered, queue_of}
+use Rattle.xa_types.specs.Setup.{numbered}
 use Rattle.xa_events.specs.declared.event.Event.{Event}
 use Rattle.xa_events.specs.declared.event.Event.TheVariants.{Accept, Forward, End}
 use Rattle.xa_events.specs.declared.event.Ended.{Ended}
@@ -22,7 +22,7 @@ use Rattle.xa_events.specs.Calls.{IsShutOut, is_accepted_by}
 use Rattle.xa_events.specs.Finishing.{Finish, FitsFinish, FailsItself, ForwardEnds, finishes}
 use Rattle.xa_events.specs.Finishing.Finish.{Forwards}
 use Rattle.xa_stamp.specs.declared.home.Stamped.{Stamped}
-use Rattle.xa_worker.specs.Seen.{past_in, SawSince}
+use Rattle.xa_worker.specs.Seen.{past_in, SawSince, SawInHand}
 use Rattle.xa_worker.specs.Calls.{SawListed}
 
 -- a request that was sent so may not be forwarded: it began a conversation, or was forwarded 32 times
@@ -35,7 +35,7 @@ IsSpent _ = ⊥
 module _ (setup : Setup) (clients : ℕ) (entries : Home → List Stamped) (stamp : Stamp) where
   -- the server saw at its own queue, where it took the request, that this may not be forwarded
   abbrev pub SawSpent : Ended → List Event → Type 0
-  SawSpent e own = SawSince setup clients entries stamp (caller_of clients e.server.0) (queue_of setup e.server.0) (λ past. IsSomeAnd (latest (is_entry_of e.request) past) IsSpent) own
+  SawSpent e own = SawInHand setup clients entries stamp e.server.0 (λ past. IsSomeAnd (latest (is_entry_of e.request) past) IsSpent) own
 
   -- no row that the version lists accepts the kind of the data, or each queue that it lists was seen to take no request, since the server's last event
   -- there

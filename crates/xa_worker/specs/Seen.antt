@@ -17,8 +17,7 @@ use Rattle.xa_types.specs.declared.ids.RequestId.{RequestId}
 use Rattle.xa_events.specs.Conversation.{Side, begins_with, ControlIs, NextIs, EndedIs}
 use Rattle.xa_events.specs.declared.event.StopCause.TheVariants.{Shutdown}
 use Rattle.xa_events.specs.Words.{AtEach, latest, count, has}
-use Rattle.xa_events.specs.State.{caller_of}
-use Rattle.xa_events.specs.Homes.{Home, is_own_at}
+use Rattle.xa_events.specs.Homes.{Home, is_own_at, is_take_by}
 use Rattle.xa_events.specs.Homes.Home.{BoardHome, QueueHome, ClockHome, CallerHome}
 use Rattle.xa_events.specs.Board.{boot, published, rows_of_version}
 use Rattle.xa_events.specs.Server.{AllGone}
@@ -107,10 +106,14 @@ module _ (setup : Setup) (clients : ℕ) (entries : Home → List Stamped) (stam
   abbrev pub SawSince : ℕ → ℕ → (List Event → Type 0) → List Event → Type 0
   SawSince worker queue P own = SawFront (entries (QueueHome queue)) stamp (λ past. IfNew setup queue P past × (count (is_own_at setup clients worker queue) past ≡ count (is_own_at setup clients worker queue) own))
 
+  -- P held so of a front of the server's queue that has its last take of a request; own are all events that its worker had noted
+  abbrev pub SawInHand : ℕ → (List Event → Type 0) → List Event → Type 0
+  SawInHand server P own = SawFront (entries (QueueHome (queue_of setup server))) stamp (λ past. IfNew setup (queue_of setup server) P past × (count (is_take_by server) past ≡ count (is_take_by server) own))
+
   -- the row stood, and the server had seen its own queue up to its take, and there how the request was sent last
   pub record SawEntryOf (f : Forwarded) (own : List Event) : Type 0 where
     pub row : SawFront (entries BoardHome) stamp (RowStands setup f.version f.service f.queue.0 (RowAdmits setup false f.routine f.payload))
-    pub sent : SawSince (caller_of clients f.server.0) (queue_of setup f.server.0) (λ past. IsSomeAnd (latest (is_entry_of f.request) past) (Forwardable f.hop)) own
+    pub sent : SawInHand f.server.0 (λ past. IsSomeAnd (latest (is_entry_of f.request) past) (Forwardable f.hop)) own
 
   -- a version that is no older than what the caller has seen was seen on the board, and its rows show it
   abbrev pub SawRows : CallerId → (List Row → Type 0) → List Event → Type 0
