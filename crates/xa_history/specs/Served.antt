@@ -118,7 +118,7 @@ lives_of lives = map (λ (over : Ending). over.life) lives
 
 -- the INVOKEs of a life, the oldest first: one for each request that its server took, with what the request was sent for last
 abbrev pub invoke_at : ℕ → ℕ → Event → List Event → List Frame
-invoke_at server g (Take t) before = written_at server g (Take t) before
+invoke_at server g (Take t) before = if is_of_life server g t.server.0 t.generation.0 then invoke_with (invocation server g (Take t ∷ before)) (sent_as t.request before) else []
 invoke_at server g e before = []
 
 abbrev pub invokes_in : ℕ → ℕ → List Event → List Frame
@@ -126,7 +126,7 @@ invokes_in server g past = from_each (invoke_at server g) past
 
 -- just these were due to the life's program
 abbrev pub IsAsked : ℕ → List Event → LifeState → Type 0
-IsAsked server past life = life.asked ≡ invokes_in server life.generation.0 past
+IsAsked server past life = invokes_of life ≡ invokes_in server life.generation.0 past
 
 -- there is a list for each server, and its lives are the server's starts that succeeded; in each of them the INVOKEs of its requests were due
 pub record AreLives (setup : Setup) (past : List Event) (lives : List (List Ending)) : Type 0 where
@@ -140,11 +140,12 @@ pub record IsStarterOf (setup : Setup) (server : ℕ) (shown : StarterShows) (pa
   pub started : HasStarted (name_of setup server) (length (starts server past)) (failed_starts server past) shown
 
 -- what went through the pipes is the history's: each server has its starter, which was asked for the server's starts, the lives are the
--- starts that succeeded, and each link's octets are those of its events
+-- starts that succeeded, each link's octets are those of its events, and each server made exactly the calls that the programs of its lives asked for
 pub record IsCarried {S : Type 0} (shows : S → StarterShows) (setup : Setup) (clients : ℕ) (past : List Event) (lives : List (List Ending)) (starters : List S) : Type 0 where
   pub all : length starters ≡ length setup.servers
   pub lives_are : AreLives setup past lives
   pub pipes : EachNumbered (λ server its. All (IsLifeOf setup clients past server) its) 1 lives
+  pub calls : EachNumbered (λ server its. MadeCalls setup clients (caller_of clients server) (calls_of_all its) past) 1 lives
   pub each : EachNumbered (λ server starter. IsStarterOf setup server (shows starter) past) 1 starters
 
 -- ---- how a run ends
