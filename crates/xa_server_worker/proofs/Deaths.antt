@@ -1,7 +1,8 @@
 -- A life of a server ends.
-use Rattle.std.proofs.Common.{◌≡◌, ◌<◌, ℕ, ◌+◌, ◌==◌, ◌&&◌, true, false, List, [], ◌∷◌, ◌++◌, map, length, Option, Some, inl, inr, refl, sym, ◌∙◌, ap, subst, append-nil, arith, eq-eqb}
+use Rattle.std.proofs.Common.{◌≡◌, ◌<◌, ℕ, ◌+◌, ◌-◌, ◌^◌, ◌==◌, ◌&&◌, true, false, List, [], ◌∷◌, ◌++◌, map, length, Option, Some, inl, inr, refl, sym, ◌∙◌, ap, subst, append-nil, arith, eq-eqb}
 use Rattle.std.specs.Prelude.{⊤}
 use Rattle.std.specs.List.{All}
+use Rattle.std.proofs.lemmas.Bool.{false≢true}
 use Rattle.std.proofs.lemmas.List.{map_push, append_assoc}
 use Rattle.std.proofs.lemmas.List.Elements.{All-nil, All-cons, All-push}
 use Rattle.xa_desk.specs.xa_types.declared.ids.Generation.{Generation}
@@ -19,21 +20,24 @@ use Rattle.xa_desk.specs.xa_events.declared.event.Outcome.TheVariants as outcome
 use Rattle.xa_desk.specs.xa_events.declared.event.Doing.{Doing}
 use Rattle.xa_desk.specs.xa_events.declared.event.Doing.TheVariants.{Off, Idle, Busy, Dying}
 use Rattle.xa_desk.specs.xa_events.Words.{AtEach, count}
+use Rattle.xa_desk.specs.xa_events.State.{caller_of}
+use Rattle.xa_desk.specs.xa_events.Caller.{last_op, op_of}
 use Rattle.xa_desk.specs.xa_events.Server.{after_end, is_shutdown}
 use Rattle.xa_desk.specs.xa_events.Homes.{worker_of}
 use Rattle.xa_desk.specs.xa_events.Cases.{IsShut}
 use Rattle.xa_desk.specs.xa_stamp.declared.home.Stamped.{Stamped}
 use Rattle.xa_desk.specs.xa_worker.Work.{WorkState, theirs}
 use Rattle.xa_desk.proofs.xa_worker.Noting.{theirs-more}
-use Rattle.xa_desk.specs.xa_pipe.declared.turn.Turn.TheVariants.{AwaitsInvoke, Exited}
+use Rattle.xa_desk.specs.xa_pipe.declared.turn.Turn.TheVariants.{AwaitsInvoke, Finishing, Exited}
 use Rattle.xa_desk.specs.xa_pipe.declared.turn.Turn.{Turn}
 use Rattle.xa_desk.specs.xa_pipe.declared.turn.Written.{Written}
 use Rattle.xa_desk.specs.xa_pipe.declared.turn.Written.TheVariants as writes
 use Rattle.xa_desk.specs.xa_pipe.Frames.{is_of_life, is_take_in}
-use Rattle.xa_desk.specs.xa_pipe.Life.{stops_life, lost_by, may_end}
-use Rattle.xa_desk.specs.xa_pipe.Standing.{LifeState, Ending, IsOver}
+use Rattle.xa_desk.specs.xa_pipe.Life.{stops_life, lost_by, may_end, StopsSpent}
+use Rattle.xa_desk.specs.xa_pipe.Standing.{LifeState, Ending, IsOver, invokes_of}
 use Rattle.xa_desk.specs.xa_pipe.Following.{Settled, HasStopped}
 use Rattle.xa_desk.proofs.xa_pipe.Followed.{stops}
+use Rattle.xa_desk.proofs.xa_pipe.Dues.{none_counted as counted_none}
 use Rattle.xa_desk.specs.xa_server.declared.closing.Closing.{Closing}
 use Rattle.xa_desk.specs.xa_server.declared.slot.ServerSlot.{ServerSlot}
 use Rattle.xa_desk.specs.xa_server.declared.served.Served.{Served}
@@ -56,8 +60,8 @@ use Rattle.xa_server_worker.specs.Standing.{SettlesBy, IsLast, IsAtWork, IsOff, 
 use Rattle.xa_server_worker.specs.Behind.{is_by_exit, TellsLast, ToldBefore}
 use Rattle.xa_server_worker.proofs.Behind.{still_behind, more_behind, told_last}
 use Rattle.xa_server_worker.proofs.Stepping.{stop_by, still_steps, noted_steps}
-use Rattle.xa_server_worker.proofs.Keeping.{OfLife, lives_same, lives_on, skip_count, handed_led}
-use Rattle.xa_server_worker.proofs.Lasting.{number_of, at_kept, started_on, failed_on, ends_shut, ends_lived, ends_work, lives_hand, none_cut, none_off, halts}
+use Rattle.xa_server_worker.proofs.Keeping.{OfLife, life_adds, no_calls, newest_same, lives_same, lives_on, skip_count, handed_led}
+use Rattle.xa_server_worker.proofs.Lasting.{number_of, at_kept, started_on, failed_on, ends_shut, ends_lived, ends_work, lives_hand, none_cut, none_off, starts_count, idle_out, halts}
 use Rattle.xa_desk.proofs.xa_pipe.Followed.{settled_led}
 use Rattle.xa_server_worker.specs.Reasons.{ShowsReason}
 use Rattle.xa_server_worker.proofs.Reasons.{reason_led}
@@ -102,8 +106,15 @@ death_in _ turn written here told may = refl
 pub is_its : (server g s h : ℕ) → s ≡ server → h ≡ g → is_of_life server g s h ≡ true
 is_its server g s h is its = ap (λ b. b && (h == g)) (eq-eqb s server is) ∙ eq-eqb h g its
 
-module _ {L T : Type 0} {d : Domain} {shows : T → StarterShows} (w : ServerWorker L T) (over : Ending) (at : IsAtWork d shows w (over.life.generation ∷ [])) (last : IsLast w.name w.served.slot over.life) (ended : IsOver over)
-    (handed : AtEach (IsHanded over.life.server.0 over.life.generation.0 over.life.asked (IsSentFor d w.queue.0 w.desk)) (theirs w.desk.caller.work))
+-- where no end of the life is among these
+none_spent : (clients server g : ℕ) (own : List Event) → count (stops_life server g) own ≡ 0 → AtEach (StopsSpent clients server g) own
+none_spent clients server g [] none = tt
+none_spent clients server g (e ∷ own) none =
+    let parts = counted_none (stops_life server g) e own none in
+    ((λ stops. absurd (false≢true (sym parts.0 ∙ stops))), none_spent clients server g own parts.1)
+
+module _ {L T : Type 0} {d : Domain} {shows : T → StarterShows} (w : ServerWorker L T) (over : Ending) (at : IsAtWork d shows w (over.life ∷ [])) (last : IsLast w.name w.served.slot over.life) (ended : IsOver over)
+    (handed : AtEach (IsHanded over.life.server.0 over.life.generation.0 (invokes_of over.life) (IsSentFor d w.queue.0 w.desk)) (theirs w.desk.caller.work))
     (kept : Served L T) (lives : kept.lives.items ≡ w.served.lives.items ++ over ∷ []) (starter : kept.starter ≡ w.served.starter) (slot' : ServerSlot) (desk' : Desk) (leads : Leads d w.desk desk') (seat : desk'.caller.seat ≡ w.desk.caller.seat) (serving : IsServing d w.queue.0 slot' desk') where
   abbrev slot : ServerSlot
   slot = w.served.slot
@@ -120,35 +131,47 @@ module _ {L T : Type 0} {d : Domain} {shows : T → StarterShows} (w : ServerWor
   server_of_life : slot.server.0 ≡ over.life.server.0
   server_of_life = ap (λ s. s.0) (sym last.server)
 
+  -- its server's calls had come to their end
+  abbrev IsSpent : Type 0
+  IsSpent = over.life.turn ≡ Finishing → last_op old.id.0 own ≡ 2 ^ 32 - 1
+
+  its_caller : caller_of d.clients over.life.server.0 ≡ old.id.0
+  its_caller = ap (λ n. n + over.life.server.0) (sym at.is.clients) ∙ (ap (λ s. old.clients + s.0) last.server ∙ number_of at.serving)
+
+  spent_before : (more : List Event) → All (OfLife slot.made) more → IsSpent → over.life.turn ≡ Finishing → last_op (caller_of d.clients over.life.server.0) (more ++ own) ≡ 2 ^ 32 - 1
+  spent_before more its spent turn = ap (λ n. last_op n (more ++ own)) its_caller ∙ (ap op_of (newest_same old.id.0 more own (no_calls old.id.0 slot.made more its)) ∙ spent turn)
+
   -- its end is noted behind these
-  stops_work : (more : List Event) (e : Event) (x : StopEvent) (rest : List Stamped) → Steps d (Stop x ∷ more) w.desk desk' → All (OfLife slot.made) more → x.server ≡ slot.server → x.generation ≡ over.life.generation → x.cause ≡ over.cause → Settled d.setup (ShowsReason d desk') over (more ++ own)
-      → AtEach (IsHanded over.life.server.0 over.life.generation.0 over.life.asked (IsSentFor d w.queue.0 desk')) (more ++ own)
-      → new.own ≡ old.own ++ rest → All (λ (y : Stamped). old.stamp.0 < y.stamp.0) rest → count (stops_life over.life.server.0 over.life.generation.0) own ≡ 0 → (over.life.turn ≡ AwaitsInvoke → SawAtQueue d w.queue.0 w.desk (IsShut d.setup w.queue.0))
+  stops_work : (more : List Event) (e : Event) (x : StopEvent) (rest : List Stamped) → Steps d (Stop x ∷ more) w.desk desk' → All (OfLife slot.made) more → x.server ≡ slot.server → x.generation ≡ over.life.generation → x.cause ≡ over.cause → Settled d.setup d.clients (ShowsReason d desk') over (more ++ own)
+      → AtEach (IsHanded over.life.server.0 over.life.generation.0 (invokes_of over.life) (IsSentFor d w.queue.0 desk')) (more ++ own)
+      → new.own ≡ old.own ++ rest → All (λ (y : Stamped). old.stamp.0 < y.stamp.0) rest → count (stops_life over.life.server.0 over.life.generation.0) own ≡ 0 → (over.life.turn ≡ AwaitsInvoke → SawAtQueue d w.queue.0 w.desk (IsShut d.setup w.queue.0)) → IsSpent
       → TellsLast desk' → slot'.server ≡ slot.server → slot'.made ≡ slot.made → slot'.gone ≡ slot.gone → IsAtWork d shows (at_kept w kept slot' desk') []
-  stops_work more e x rest steps its server generation why settled still grew later alive saw told server' made' gone' =
+  stops_work more e x rest steps its server generation why settled still grew later alive saw spent told server' made' gone' =
       let all : All (OfLife slot.made) (Stop x ∷ more) = All-cons (OfLife slot.made) (Stop x) more (ap (λ g. g.0) generation ∙ last.number) its in
       let serves : Serves d w.queue.0 (Stop x ∷ more) slot slot' w.desk desk' = record { steps = steps; serving = serving; server = server'; made = made'; gone = gone' } in
       let ours : is_of_life over.life.server.0 over.life.generation.0 x.server.0 x.generation.0 ≡ true = is_its over.life.server.0 over.life.generation.0 x.server.0 x.generation.0 (ap (λ s. s.0) server ∙ server_of_life) (ap (λ g. g.0) generation) in
       ends_work w over at last ended kept lives starter slot' desk' (Stop x ∷ more) serves all told
       (ends_lived w over at last ended kept lives starter slot' desk' (Stop x ∷ more) serves all
-      (subst (HasStopped d.setup (ShowsReason d desk') over) (sym {A = List Event} steps.own) (stops d.setup over (more ++ own) x ours why settled))
+      (subst (HasStopped d.setup d.clients (ShowsReason d desk') over) (sym {A = List Event} steps.own) (stops d.setup d.clients over (more ++ own) x ours why settled))
       (λ turn. ends_shut w over at last ended kept lives starter slot' desk' (Stop x ∷ more) serves all rest grew later alive (saw turn))
-      (subst (AtEach (IsHanded over.life.server.0 over.life.generation.0 over.life.asked (IsSentFor d w.queue.0 desk'))) (sym {A = List Event} steps.own) (tt, still)))
+      (λ turn. subst (AtEach (StopsSpent d.clients over.life.server.0 over.life.generation.0)) (sym {A = List Event} steps.own)
+      ((λ stops. spent_before more its spent turn), none_spent d.clients over.life.server.0 over.life.generation.0 (more ++ own) settled.alive))
+      (subst (AtEach (IsHanded over.life.server.0 over.life.generation.0 (invokes_of over.life) (IsSentFor d w.queue.0 desk'))) (sym {A = List Event} steps.own) (tt, still)))
 
-  settled_still : (ending : Ending) (events : List Event) → Settled d.setup (ShowsReason d w.desk) ending events → Settled d.setup (ShowsReason d desk') ending events
-  settled_still ending events settled = settled_led d.setup (ShowsReason d w.desk) (ShowsReason d desk') (reason_led d w.desk desk' leads) ending events settled
+  settled_still : (ending : Ending) (events : List Event) → Settled d.setup d.clients (ShowsReason d w.desk) ending events → Settled d.setup d.clients (ShowsReason d desk') ending events
+  settled_still ending events settled = settled_led d.setup (ShowsReason d w.desk) (ShowsReason d desk') (reason_led d w.desk desk' leads) d.clients ending events settled
 
-  handed_still : AtEach (IsHanded over.life.server.0 over.life.generation.0 over.life.asked (IsSentFor d w.queue.0 desk')) own
-  handed_still = handed_led over.life.server.0 over.life.generation.0 d w.queue.0 w.desk desk' over.life.asked own leads handed
+  handed_still : AtEach (IsHanded over.life.server.0 over.life.generation.0 (invokes_of over.life) (IsSentFor d w.queue.0 desk')) own
+  handed_still = handed_led over.life.server.0 over.life.generation.0 d w.queue.0 w.desk desk' (invokes_of over.life) own leads handed
 
   -- with nothing in hand
-  pub stops_idle : (cause : StopCause) (stamp : Stamp) → cause ≡ over.cause → life_in slot.doing ≡ over.life.generation → Settled d.setup (ShowsReason d w.desk) over own → (over.life.turn ≡ AwaitsInvoke → SawAtQueue d w.queue.0 w.desk (IsShut d.setup w.queue.0)) → TellsLast desk' → Stops cause stamp slot' slot new old
+  pub stops_idle : (cause : StopCause) (stamp : Stamp) → cause ≡ over.cause → life_in slot.doing ≡ over.life.generation → Settled d.setup d.clients (ShowsReason d w.desk) over own → (over.life.turn ≡ AwaitsInvoke → SawAtQueue d w.queue.0 w.desk (IsShut d.setup w.queue.0)) → IsSpent → TellsLast desk' → Stops cause stamp slot' slot new old
       → IsAtWork d shows (at_kept w kept slot' desk') []
-  stops_idle cause stamp why does settled saw told stopped =
+  stops_idle cause stamp why does settled saw spent told stopped =
       let x : StopEvent = record { server = slot.server; generation = life_in slot.doing; cause = cause } in
       let next = stopped.noted.next in
       stops_work [] (Stop x) x (record { stamp = stamp; event = Stop x } ∷ []) (noted_steps stamp (Stop x) old.room leads (number_of at.serving) stopped.noted) (All-nil (OfLife slot.made)) refl does why (settled_still over own settled) handed_still
-      (ap (λ (v : WorkState). v.own) stopped.noted.made) (All-cons (λ (y : Stamped). old.stamp.0 < y.stamp.0) (record { stamp = stamp; event = Stop x }) [] (omega (arith, next)) (All-nil (λ (y : Stamped). old.stamp.0 < y.stamp.0))) settled.alive saw told
+      (ap (λ (v : WorkState). v.own) stopped.noted.made) (All-cons (λ (y : Stamped). old.stamp.0 < y.stamp.0) (record { stamp = stamp; event = Stop x }) [] (omega (arith, next)) (All-nil (λ (y : Stamped). old.stamp.0 < y.stamp.0))) settled.alive saw spent told
       (ap (λ (s : ServerSlot). s.server) stopped.left) (ap (λ (s : ServerSlot). s.made) stopped.left) (ap (λ (s : ServerSlot). s.gone) stopped.left)
 
   -- it may end so, as nothing else was noted
@@ -158,7 +181,7 @@ module _ {L T : Type 0} {d : Domain} {shows : T → StarterShows} (w : ServerWor
 
   -- ---- by itself
 
-  module _ (cause : StopCause) (why : cause ≡ over.cause) (death : is_death cause ≡ true) (saw : over.life.turn ≡ AwaitsInvoke → SawAtQueue d w.queue.0 w.desk (IsShut d.setup w.queue.0)) where
+  module _ (cause : StopCause) (why : cause ≡ over.cause) (death : is_death cause ≡ true) (saw : over.life.turn ≡ AwaitsInvoke → SawAtQueue d w.queue.0 w.desk (IsShut d.setup w.queue.0)) (spent : IsSpent) where
     -- its request, as it is lost
     abbrev lost_end : RequestId → Ended
     lost_end request = record { request = request; server = slot.server; generation = life_in slot.doing; outcome = outcome_of cause }
@@ -206,7 +229,7 @@ module _ {L T : Type 0} {d : Domain} {shows : T → StarterShows} (w : ServerWor
               }) (All-cons (OfLife slot.made) (End e) [] (ap (λ h. h.0) lived ∙ last.number) (All-nil (OfLife slot.made))) server generation why (settled_still over (End e ∷ own) settled) (tt, handed_still)
               (busy_own closing dies)
               (All-cons (λ (y : Stamped). old.stamp.0 < y.stamp.0) (record { stamp = dies.stamp; event = End e }) (record { stamp = dies.stop; event = Stop x } ∷ []) (omega (arith, next))
-              (All-cons (λ (y : Stamped). old.stamp.0 < y.stamp.0) (record { stamp = dies.stop; event = Stop x }) [] (omega (arith, next, stamp, after)) (All-nil (λ (y : Stamped). old.stamp.0 < y.stamp.0)))) settled.alive saw (told_last ⊥ desk' (dies_told closing (Busy g request) dies))
+              (All-cons (λ (y : Stamped). old.stamp.0 < y.stamp.0) (record { stamp = dies.stop; event = Stop x }) [] (omega (arith, next, stamp, after)) (All-nil (λ (y : Stamped). old.stamp.0 < y.stamp.0)))) settled.alive saw spent (told_last ⊥ desk' (dies_told closing (Busy g request) dies))
               (ap (λ (s : ServerSlot). s.server) dies.stops.left ∙ server) (ap (λ (s : ServerSlot). s.made) dies.stops.left ∙ ap (λ (s : ServerSlot). s.made) ends.left) (ap (λ (s : ServerSlot). s.gone) dies.stops.left ∙ ap (λ (s : ServerSlot). s.gone) ends.left);
           off = ap (λ (s : ServerSlot). s.doing) dies.stops.left;
           up = ap (λ (s : ServerSlot). s.shut) dies.stops.left ∙ no_shutdown cause death;
@@ -215,7 +238,7 @@ module _ {L T : Type 0} {d : Domain} {shows : T → StarterShows} (w : ServerWor
     pub dies_off : (closing : Closing) (doing : Doing) → slot.doing ≡ doing → SettlesBy d w.desk over own doing → DiesFrom doing cause closing slot' slot new old → IsOff d shows (at_kept w kept slot' desk')
     dies_off closing (Busy g request) does settles dies = dies_busy closing g request does settles dies
     dies_off closing (Idle g) does (its, settled) dies = record {
-      at = stops_idle cause dies.stop why (ap life_in does ∙ its) settled saw (told_last ⊥ desk' (dies_told closing (Idle g) dies)) dies.stops;
+      at = stops_idle cause dies.stop why (ap life_in does ∙ its) settled saw spent (told_last ⊥ desk' (dies_told closing (Idle g) dies)) dies.stops;
       off = ap (λ (s : ServerSlot). s.doing) dies.stops.left;
       up = ap (λ (s : ServerSlot). s.shut) dies.stops.left ∙ no_shutdown cause death;
     }
@@ -226,24 +249,25 @@ module _ {L T : Type 0} {d : Domain} {shows : T → StarterShows} (w : ServerWor
 
   -- where stamps came to their end, behind these
   worn_ends : (more : List Event) (worn : Worn) (stopped : Stopped) → stopped ≡ stop_by worn → IsWorn worn new → Steps d more w.desk desk' → All (OfLife slot.made) more → All (λ (e : Event). is_take_in slot.server.0 over.life.generation.0 e ≡ false) more → slot'.server ≡ slot.server → slot'.made ≡ slot.made → TookEach slot.server.0 own over.life
-      → AtEach (IsHanded over.life.server.0 over.life.generation.0 over.life.asked (IsSentFor d w.queue.0 desk')) (more ++ own) → TellsLast desk' → HasEnded d shows (Some stopped) (at_kept w kept slot' desk')
+      → AtEach (IsHanded over.life.server.0 over.life.generation.0 (invokes_of over.life) (IsSentFor d w.queue.0 desk')) (more ++ own) → TellsLast desk' → HasEnded d shows (Some stopped) (at_kept w kept slot' desk')
   worn_ends more worn stopped by full steps its plain server made took still told =
       let s : ℕ = slot.server.0 in
       let Hands : LifeState → Type 0 = HandsOn d w.queue.0 s desk' in
-      let on = lives_on steps w.name w.queue.0 s slot.made w.served.lives.items over.life.generation (number_of at.serving) its at.lived in
+      let adds = life_adds steps s slot.made (number_of at.serving) its in
+      let on = lives_on adds w.name w.queue.0 w.served.lives.items over.life.generation at.lived in
       let now_hands : Hands over.life = record {
         taken = ap (count (is_take_in s over.life.generation.0)) steps.own ∙ skip_count (is_take_in s over.life.generation.0) more own plain ∙ took;
-        handed = subst (λ (n : ℕ). AtEach (IsHanded n over.life.generation.0 over.life.asked (IsSentFor d w.queue.0 desk')) (theirs new)) (sym server_of_life)
-            (subst (AtEach (IsHanded over.life.server.0 over.life.generation.0 over.life.asked (IsSentFor d w.queue.0 desk'))) (sym {A = List Event} steps.own) still);
+        handed = subst (λ (n : ℕ). AtEach (IsHanded n over.life.generation.0 (invokes_of over.life) (IsSentFor d w.queue.0 desk')) (theirs new)) (sym server_of_life)
+            (subst (AtEach (IsHanded over.life.server.0 over.life.generation.0 (invokes_of over.life) (IsSentFor d w.queue.0 desk'))) (sym {A = List Event} steps.own) still);
       } in
-      let same : lives_in slot'.server.0 (theirs new) ≡ lives_in s own = ap (λ x. lives_in x.0 (theirs new)) server ∙ ap (lives_in s) steps.own ∙ lives_same s slot.made more own its in
-      halts (at_kept w kept slot' desk') stopped leads.desk serving (ap (λ s. (shows s).name) starter ∙ at.named_so)
+      let same : lives_in slot'.server.0 (theirs new) ≡ lives_in s own = ap (λ x. lives_in x.0 (theirs new)) server ∙ lives_same adds in
+      halts (at_kept w kept slot' desk') stopped leads.desk (number_of serving) (idle_out desk' serving.idle) serving.hand (starts_count serving) (ap (λ s. (shows s).name) starter ∙ at.named_so)
       (ap (λ (l : List Ending). map (λ (y : Ending). y.life.generation) l ++ map (λ (life : LifeState). life.generation) (cut_in w.cut)) lives ∙ ap (λ (gs : List Generation). gs ++ map (λ (life : LifeState). life.generation) (cut_in w.cut)) (map_push (λ (y : Ending). y.life.generation) w.served.lives.items over)
       ∙ ap (λ (o : Option LifeState). (map (λ (y : Ending). y.life.generation) w.served.lives.items ++ over.life.generation ∷ []) ++ map (λ (life : LifeState). life.generation) (cut_in o)) at.cut ∙ append-nil _ ∙ at.lived.are ∙ sym same)
       (subst (λ x. All (HandsOn d w.queue.0 x.0 desk') (map (λ (y : Ending). y.life) kept.lives.items ++ cut_in w.cut)) (sym server) (none_cut Hands (map (λ (y : Ending). y.life) kept.lives.items) w.cut at.cut
       (subst (λ (l : List Ending). All Hands (map (λ (y : Ending). y.life) l)) (sym {A = List Ending} lives) (subst (All Hands) (sym (map_push (λ (y : Ending). y.life) w.served.lives.items over)) (All-push Hands (map (λ (y : Ending). y.life) w.served.lives.items) over.life (lives_hand w.served.lives.items on.each) now_hands)))))
       (none_off (IsCut w.name slot'.server.0 (theirs new)) w.cut at.cut)
-      (inl (started_on made (failed_on steps slot.made slot slot' server its) (ap shows starter) at.started)) told
+      (inl (started_on made (failed_on adds slot slot' refl server) (ap shows starter) at.started)) told
       (subst (IsStopAt desk') (sym by) (full.tells, full.at_end))
 
   pub worn_still : (worn : Worn) (stopped : Stopped) → stopped ≡ stop_by worn → IsWorn worn old → slot' ≡ slot → new ≡ old → TookEach slot.server.0 own over.life → HasEnded d shows (Some stopped) (at_kept w kept slot' desk')
@@ -273,7 +297,7 @@ pub settles_took : (d : Domain) (desk : Desk) (over : Ending) (past : List Event
 settles_took d desk over past server (Busy g request) its (same, settles) =
     let e : Ended = record { request = request; server = over.life.server; generation = over.life.generation; outcome = lost_by over.cause } in
     let settled = settles e (is_its over.life.server.0 over.life.generation.0 over.life.server.0 over.life.generation.0 refl refl) refl in
-    subst (λ (s : ℕ). count (is_take_in s over.life.generation.0) past ≡ length over.life.asked) its settled.taken
-settles_took d desk over past server (Idle g) its (same, settled) = subst (λ (s : ℕ). count (is_take_in s over.life.generation.0) past ≡ length over.life.asked) its settled.taken
+    subst (λ (s : ℕ). count (is_take_in s over.life.generation.0) past ≡ length (invokes_of over.life)) its settled.taken
+settles_took d desk over past server (Idle g) its (same, settled) = subst (λ (s : ℕ). count (is_take_in s over.life.generation.0) past ≡ length (invokes_of over.life)) its settled.taken
 settles_took d desk over past server Off its settles = absurd settles
 settles_took d desk over past server (Dying g) its settles = absurd settles

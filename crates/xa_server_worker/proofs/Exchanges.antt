@@ -80,22 +80,38 @@ use Rattle.xa_server_worker.specs.Reasons.{ShowsReason}
 
 -- ---- a life with another turn
 
--- what it is stays
+-- what it is stays, and it asked for no call that was made
 pub record Becomes (asked : List Frame) (new old : LifeState) : Type 0 where
   pub link : LinkShows
   pub said : List Frame
   pub turn : Turn
   pub made : new ≡ record old { link = link; asked = asked; said = said; turn = turn }
+  pub calls : calls_of new ≡ calls_of old
+
+-- so it is with its link alone
+pub link_becomes : {new old : LifeState} {link : LinkShows} → new ≡ record old { link = link } → Becomes old.asked new old
+link_becomes {new} {old} {link} made = record { link = link; said = old.said; turn = old.turn; made = made; calls = ap calls_of made }
 
 module _ {new old : LifeState} (asked : List Frame) (becomes : Becomes asked new old) where
-  pub at_still : {L T : Type 0} {d : Domain} {shows : T → StarterShows} {w : ServerWorker L T} → IsAtWork d shows w (old.generation ∷ []) → IsAtWork d shows w (new.generation ∷ [])
-  at_still {L} {T} {d} {shows} {w} at = subst (λ (l : LifeState). IsAtWork d shows w (l.generation ∷ [])) (sym becomes.made) at
+  pub at_still : {L T : Type 0} {d : Domain} {shows : T → StarterShows} {w : ServerWorker L T} → IsAtWork d shows w (old ∷ []) → IsAtWork d shows w (new ∷ [])
+  at_still {L} {T} {d} {shows} {w} at = record {
+    is = at.is;
+    serving = at.serving;
+    named_so = at.named_so;
+    started = at.started;
+    lived = subst (λ (g : Generation). HasLived d w.name w.queue.0 w.served.slot.server.0 w.served.slot.made w.desk w.served.lives.items (g ∷ [])) (sym (ap (λ (l : LifeState). l.generation) becomes.made)) at.lived;
+    called = subst (λ (ops : List Op). HasCalled d (calls_of_all w.served.lives.items ++ (ops ++ [])) w.desk) (sym becomes.calls) at.called;
+    floor = at.floor;
+    left = at.left;
+    cut = at.cut;
+    told = at.told;
+  }
 
   pub last_still : {name : List ℕ} {slot : ServerSlot} → IsLast name slot old → IsLast name slot new
   last_still last = record { server = ap (λ (l : LifeState). l.server) becomes.made ∙ last.server; named = ap (λ (l : LifeState). l.name) becomes.made ∙ last.named; number = ap (λ (l : LifeState). l.generation.0) becomes.made ∙ last.number }
 
-  pub handed_still : (Sent : Sendings) (own : List Event) → AtEach (IsHanded old.server.0 old.generation.0 asked Sent) own → AtEach (IsHanded new.server.0 new.generation.0 new.asked Sent) own
-  handed_still Sent own each = subst (λ (l : LifeState). AtEach (IsHanded l.server.0 l.generation.0 l.asked Sent) own) (sym becomes.made) each
+  pub handed_still : (Sent : Sendings) (own : List Event) → AtEach (IsHanded old.server.0 old.generation.0 (invokes_in asked) Sent) own → AtEach (IsHanded new.server.0 new.generation.0 (invokes_of new) Sent) own
+  handed_still Sent own each = subst (λ (l : LifeState). AtEach (IsHanded l.server.0 l.generation.0 (invokes_of l) Sent) own) (sym becomes.made) each
 
   pub does_still : (doing : Doing) → doing ≡ Idle old.generation → doing ≡ Idle new.generation
   does_still doing is = is ∙ ap (λ (l : LifeState). Idle l.generation) (sym becomes.made)
@@ -159,13 +175,13 @@ abbrev pub own_of : {L T : Type 0} → ServerWorker L T → List Event
 own_of w = theirs w.desk.caller.work
 
 -- the INVOKE at its place
-invoke_is : (life : LifeState) (before : List Event) (t : Taken) (what : Invocation) → is_of_life life.server.0 life.generation.0 t.server.0 t.generation.0 ≡ true → count (is_take_in life.server.0 life.generation.0) before ≡ length life.asked → length life.asked ≡ returned life
-    → take 1 (drop (count (is_take_in life.server.0 life.generation.0) before) (life.asked ++ next_invoke what.service what.routine what.payload life ∷ []))
+invoke_is : (life : LifeState) (before : List Event) (t : Taken) (what : Invocation) → is_of_life life.server.0 life.generation.0 t.server.0 t.generation.0 ≡ true → count (is_take_in life.server.0 life.generation.0) before ≡ length (invokes_of life) → length (invokes_of life) ≡ returned life
+    → take 1 (drop (count (is_take_in life.server.0 life.generation.0) before) (invokes_of life ++ next_invoke what.service what.routine what.payload life ∷ []))
     ≡ invoke_frame what.service what.routine (invocation life.server.0 life.generation.0 (Take t ∷ before)) what.payload ∷ []
 unfolding invocation
 invoke_is life before t what its taken even =
     let f : Frame = next_invoke what.service what.routine what.payload life in
-    ap (λ (n : ℕ). take 1 (drop n (life.asked ++ f ∷ []))) taken ∙ ap (take 1) (drop-append_seam life.asked (f ∷ []))
+    ap (λ (n : ℕ). take 1 (drop n (invokes_of life ++ f ∷ []))) taken ∙ ap (take 1) (drop-append_seam (invokes_of life) (f ∷ []))
     ∙ ap (λ (n : ℕ). invoke_frame what.service what.routine ((n + 1) % 2 ^ 32) what.payload ∷ []) (sym (taken ∙ even))
     ∙ ap (λ (b : Bool). invoke_frame what.service what.routine (cond b (count (is_take_in life.server.0 life.generation.0) before + 1) (count (is_take_in life.server.0 life.generation.0) before) % 2 ^ 32) what.payload ∷ []) (sym its)
 
@@ -189,12 +205,12 @@ finished_event : (setup : Setup) (Why : Reasons) (back : Finish) (e : Event) (be
 finished_event setup Why (Returns back) e before comes = return_event (return_by setup [] back.value back.code back.payload) e comes
 finished_event setup Why (Forwards forward) e before comes = forward_event Why forward.service forward.payload e before comes
 
-follows_done : (setup : Setup) (Why : Reasons) (old new : LifeState) (own : List Event) (e : Event) (back : Finish) (tag : ℕ) → is_of old.server.0 old.generation.0 e ≡ true → Heard (finish_frame tag back) new old → ComesTo setup Why back (record { event = e; before = own }) → Follows setup Why old own → Follows setup Why new (e ∷ own)
-follows_done setup Why old new own e back tag its heard comes follows = by e (finished_event setup Why back e own comes) its comes
+follows_done : (setup : Setup) (clients : ℕ) (Why : Reasons) (old new : LifeState) (own : List Event) (e : Event) (back : Finish) (tag : ℕ) → is_of old.server.0 old.generation.0 e ≡ true → Heard (finish_frame tag back) new old → ComesTo setup Why back (record { event = e; before = own }) → Follows setup clients Why old own → Follows setup clients Why new (e ∷ own)
+follows_done setup clients Why old new own e back tag its heard comes follows = by e (finished_event setup Why back e own comes) its comes
   where
-    by : (x : Event) → IsFinishing x → is_of old.server.0 old.generation.0 x ≡ true → ComesTo setup Why back (record { event = x; before = own }) → Follows setup Why new (x ∷ own)
-    by (End x) is ours here = follows_end setup old new own x back tag ours heard here follows
-    by (Forward f) is ours here = follows_forward setup old new own f back tag ours heard here follows
+    by : (x : Event) → IsFinishing x → is_of old.server.0 old.generation.0 x ≡ true → ComesTo setup Why back (record { event = x; before = own }) → Follows setup clients Why new (x ∷ own)
+    by (End x) is ours here = follows_end setup clients old new own x back tag ours heard here follows
+    by (Forward f) is ours here = follows_forward setup clients old new own f back tag ours heard here follows
     by _ is ours here = absurd is
 
 -- a forward ends no life
@@ -221,39 +237,40 @@ module _ {L T : Type 0} {d : Domain} {shows : T → StarterShows} (w : ServerWor
 
   pub greeted_in : (new old : LifeState) → Greeted new old → IsIn d shows (Idle old.generation) AwaitsReady 0 old w → IsFree d shows new w
   greeted_in new old greeted is =
-      let becomes : Becomes old.asked new old = record { link = new.link; said = _; turn = AwaitsInvoke; made = greeted.made } in
+      let becomes : Becomes old.asked new old = record { link = new.link; said = _; turn = AwaitsInvoke; made = greeted.made; calls = calls_greeted old new greeted (λ was. let turns = is.turns in cc (was, turns)) } in
       record {
         at = at_still old.asked becomes is.at;
         last = last_still old.asked becomes is.last;
-        going = record { follows = follows_greeted d.setup old new (own_of w) greeted is.going.follows; handed = handed_still old.asked becomes (IsSentFor d w.queue.0 w.desk) (own_of w) is.going.handed };
+        going = record { follows = follows_greeted d.setup d.clients old new (own_of w) greeted is.going.follows; handed = handed_still old.asked becomes (IsSentFor d w.queue.0 w.desk) (own_of w) is.going.handed };
         does = does_still old.asked becomes w.served.slot.doing is.does;
         turns = ap (λ (l : LifeState). l.turn) greeted.made;
-        asked = ap (λ (l : LifeState). length l.asked) greeted.made ∙ is.asked ∙ ap (λ (n : ℕ). n + 0) (sym (ap (λ (l : LifeState). length (finishes_in l.said)) greeted.made ∙ returned_ready old.name old.said));
+        asked = ap (λ (l : LifeState). length (invokes_of l)) greeted.made ∙ is.asked ∙ ap (λ (n : ℕ). n + 0) (sym (ap (λ (l : LifeState). length (finishes_in l.said)) greeted.made ∙ returned_ready old.name old.said));
         room = is.room;
       }
 
   pub next_in : (new old : LifeState) → Heard next_frame new old → IsIn d shows (Idle old.generation) AwaitsNext 0 old w → IsFree d shows new w
   next_in new old heard is =
-      let becomes : Becomes old.asked new old = record { link = new.link; said = _; turn = _; made = heard.made } in
+      let becomes : Becomes old.asked new old = record { link = new.link; said = _; turn = _; made = heard.made; calls = calls_next old new heard is.turns } in
       record {
         at = at_still old.asked becomes is.at;
         last = last_still old.asked becomes is.last;
-        going = record { follows = follows_next d.setup old new (own_of w) heard is.going.follows; handed = handed_still old.asked becomes (IsSentFor d w.queue.0 w.desk) (own_of w) is.going.handed };
+        going = record { follows = follows_next d.setup d.clients old new (own_of w) heard is.going.follows; handed = handed_still old.asked becomes (IsSentFor d w.queue.0 w.desk) (own_of w) is.going.handed };
         does = does_still old.asked becomes w.served.slot.doing is.does;
         turns = ap (λ (l : LifeState). l.turn) heard.made ∙ ap (λ (t : Turn). turn_after t next_frame.body) is.turns;
-        asked = ap (λ (l : LifeState). length l.asked) heard.made ∙ is.asked ∙ ap (λ (n : ℕ). n + 0) (sym (ap (λ (l : LifeState). length (finishes_in l.said)) heard.made ∙ returned_next old.said));
+        asked = ap (λ (l : LifeState). length (invokes_of l)) heard.made ∙ is.asked ∙ ap (λ (n : ℕ). n + 0) (sym (ap (λ (l : LifeState). length (finishes_in l.said)) heard.made ∙ returned_next old.said));
         room = is.room;
       }
 
   -- it said READY, and may fall behind that
   pub ready_in : (link : LinkShows) (old : LifeState) → IsIn d shows (Idle old.generation) AwaitsReady 0 old w → IsIn d shows (Idle old.generation) AwaitsNext 0 (with_said (ready_frame old.name) link old) w
   ready_in link old is = record {
-    at = is.at;
+    at = at_still old.asked (record { link = link; said = _; turn = _; made = refl; calls = calls_ready link old is.turns }) is.at;
     last = record { server = is.last.server; named = is.last.named; number = is.last.number };
     going = record {
       follows = record {
         alive = is.going.follows.alive;
         taken = is.going.follows.taken;
+        told = is.going.follows.told;
         came = subst (λ (rs : List Finish). EachCame d.setup (ShowsReason d w.desk) rs (came_in old.server.0 old.generation.0 (own_of w))) (sym (finishes_append old.said (ready_frame old.name ∷ []) ∙ append-nil (finishes_in old.said))) is.going.follows.came;
       };
       handed = is.going.handed;
@@ -272,7 +289,7 @@ module _ {L T : Type 0} {d : Domain} {shows : T → StarterShows} (w : ServerWor
       let g : t.generation ≡ life.generation = takes.generation ∙ ap life_in is.does in
       let number : t.generation.0 ≡ w.served.slot.made = ap (λ h. h.0) g ∙ is.last.number in
       record {
-        at = work_on w slot' desk' (Take t ∷ []) life.generation takes.serves (All-cons (OfLife w.served.slot.made) (Take t) [] number (All-nil (OfLife w.served.slot.made)))
+        at = work_on w slot' desk' (Take t ∷ []) life takes.serves (All-cons (OfLife w.served.slot.made) (Take t) [] number (All-nil (OfLife w.served.slot.made)))
             (calm_push w.desk desk' (record { stamp = takes.stamp; event = Take t }) takes.noted takes.seat refl) is.at;
         last = last_on w.name w.served.slot slot' life takes.serves.server takes.serves.made is.last;
         t = t;
@@ -297,75 +314,83 @@ module _ {L T : Type 0} {d : Domain} {shows : T → StarterShows} (w : ServerWor
     same_entry a b is so = cc (sym is ∙ so)
 
     -- the request that was taken is handed on by it
-    sent_handed : AtEach (IsHanded life.server.0 life.generation.0 (life.asked ++ f ∷ []) (IsSentFor d w.queue.0 w.desk)) (Take has.t ∷ has.before)
+    sent_handed : AtEach (IsHanded life.server.0 life.generation.0 (invokes_in (life.asked ++ f ∷ [])) (IsSentFor d w.queue.0 w.desk)) (Take has.t ∷ has.before)
     sent_handed =
-        let asked : has.entry.cargo.invocation ≡ what = sym (invokes.sent ∙ ap (λ (e : Entry Cargo). e.cargo.invocation) (same_entry invokes.entry has.entry invokes.in_hand has.hand)) in (
+        let asked : has.entry.cargo.invocation ≡ what = sym (invokes.sent ∙ ap (λ (e : Entry Cargo). e.cargo.invocation) (same_entry invokes.entry has.entry invokes.in_hand has.hand)) in
+        subst (λ (fs : List Frame). AtEach (IsHanded life.server.0 life.generation.0 fs (IsSentFor d w.queue.0 w.desk)) (Take has.t ∷ has.before)) (sym (invokes_push life.asked f)) (
           λ its. (what, subst (IsSentFor d w.queue.0 w.desk has.t) asked has.taken.sent, invoke_is life has.before has.t what has.its has.going.follows.taken has.asked),
-          handed_wider life.server.0 life.generation.0 life.asked (f ∷ []) (IsSentFor d w.queue.0 w.desk) (IsSentFor d w.queue.0 w.desk) (λ t what sent. sent) has.before has.going.handed,
+          handed_wider life.server.0 life.generation.0 (invokes_of life) (f ∷ []) (IsSentFor d w.queue.0 w.desk) (IsSentFor d w.queue.0 w.desk) (λ t what sent. sent) has.before has.going.handed,
         )
 
     pub sent_in : (new : LifeState) → Invoked f new life → IsIn d shows (Busy new.generation has.t.request) Serving 1 new w
     sent_in new invoked =
-        let becomes : Becomes (life.asked ++ f ∷ []) new life = record { link = _; said = life.said; turn = Serving; made = invoked.made } in
+        let becomes : Becomes (life.asked ++ f ∷ []) new life = record { link = _; said = life.said; turn = Serving; made = invoked.made; calls = sent_calls life has.turns new _ invoked.made } in
         record {
           at = at_still (life.asked ++ f ∷ []) becomes has.at;
           last = last_still (life.asked ++ f ∷ []) becomes has.last;
           going = record {
-            follows = subst (Follows d.setup (ShowsReason d w.desk) new) (sym {A = List Event} has.own) (follows_take d.setup life new has.before has.t f has.its invoked has.going.follows);
-            handed = subst (AtEach (IsHanded new.server.0 new.generation.0 new.asked (IsSentFor d w.queue.0 w.desk))) (sym {A = List Event} has.own) (handed_still (life.asked ++ f ∷ []) becomes (IsSentFor d w.queue.0 w.desk) (Take has.t ∷ has.before) sent_handed);
+            follows = subst (Follows d.setup d.clients (ShowsReason d w.desk) new) (sym {A = List Event} has.own) (follows_take d.setup d.clients life new has.before has.t f has.its refl invoked has.going.follows);
+            handed = subst (AtEach (IsHanded new.server.0 new.generation.0 (invokes_of new) (IsSentFor d w.queue.0 w.desk))) (sym {A = List Event} has.own) (handed_still (life.asked ++ f ∷ []) becomes (IsSentFor d w.queue.0 w.desk) (Take has.t ∷ has.before) sent_handed);
           };
           does = has.does ∙ ap (λ (l : LifeState). Busy l.generation has.t.request) (sym invoked.made);
           turns = ap (λ (l : LifeState). l.turn) invoked.made;
-          asked = ap (λ (l : LifeState). length l.asked) invoked.made ∙ length-append life.asked (f ∷ []) ∙ ap (λ (n : ℕ). n + 1) (has.asked ∙ ap (λ (l : LifeState). length (finishes_in l.said)) (sym invoked.made));
+          asked = ap (λ (l : LifeState). length (invokes_of l)) invoked.made ∙ ap length (invokes_push life.asked f) ∙ length-append (invokes_of life) (f ∷ []) ∙ ap (λ (n : ℕ). n + 1) (has.asked ∙ ap (λ (l : LifeState). length (finishes_in l.said)) (sym invoked.made));
           room = has.room;
         }
 
     -- or it wasn't sent
     pub unsent_dies : (over : Ending) → Unsent f over life → MayDie d shows over w
     unsent_dies over unsent =
-        let becomes : Becomes (life.asked ++ f ∷ []) over.life life = record { link = over.life.link; said = life.said; turn = Serving; made = unsent.life } in
+        let becomes : Becomes (life.asked ++ f ∷ []) over.life life = record { link = over.life.link; said = life.said; turn = Serving; made = unsent.life; calls = sent_calls life has.turns over.life over.life.link unsent.life } in
         let serving : over.life.turn ≡ Serving = ap (λ (l : LifeState). l.turn) unsent.life in
         record {
           at = at_still (life.asked ++ f ∷ []) becomes has.at;
           last = last_still (life.asked ++ f ∷ []) becomes has.last;
-          handed = subst (AtEach (IsHanded over.life.server.0 over.life.generation.0 over.life.asked (IsSentFor d w.queue.0 w.desk))) (sym {A = List Event} has.own) (handed_still (life.asked ++ f ∷ []) becomes (IsSentFor d w.queue.0 w.desk) (Take has.t ∷ has.before) sent_handed);
+          handed = subst (AtEach (IsHanded over.life.server.0 over.life.generation.0 (invokes_of over.life) (IsSentFor d w.queue.0 w.desk))) (sym {A = List Event} has.own) (handed_still (life.asked ++ f ∷ []) becomes (IsSentFor d w.queue.0 w.desk) (Take has.t ∷ has.before) sent_handed);
           settles = subst (SettlesBy d w.desk over (own_of w)) (sym has.does) (
             ap (λ (l : LifeState). l.generation) (sym unsent.life),
-            λ e ours outcome. subst (λ (l : List Event). Settled d.setup (ShowsReason d w.desk) over (End e ∷ l)) (sym {A = List Event} has.own) (settles_unsent d.setup life over has.before has.t e f unsent has.its ours outcome has.going.follows),
+            λ e ours outcome. subst (λ (l : List Event). Settled d.setup d.clients (ShowsReason d w.desk) over (End e ∷ l)) (sym {A = List Event} has.own) (settles_unsent d.setup d.clients life over has.before has.t e f unsent refl has.its ours outcome has.going.follows),
           );
           dies = death_in over.cause over.life.turn over.written (λ exited. cc (exited, serving)) (λ idle. cc (idle, serving));
           shut = λ idle. cc (idle, serving);
+          spent = λ finishing. cc (finishing, serving);
           room = has.room;
         }
 
   -- ---- its program says nothing more
 
-  pub falls_busy : (old : LifeState) (over : Ending) (request : RequestId) → Fell over old → IsIn d shows (Busy old.generation request) Serving 1 old w → MayDie d shows over w
-  falls_busy old over request fell is =
-      let becomes : Becomes old.asked over.life old = record { link = over.life.link; said = old.said; turn = old.turn; made = fell.life } in
-      let serving : over.life.turn ≡ Serving = ap (λ (l : LifeState). l.turn) fell.life ∙ is.turns in
+  pub falls_busy : (old : LifeState) (over : Ending) (turn : Turn) (t : Taken) → Fell over old → IsServed d shows turn t old w → MayDie d shows over w
+  falls_busy old over turn t fell served =
+      let is = served.busy.is in
+      let becomes : Becomes old.asked over.life old = link_becomes fell.life in
+      let same : over.life.turn ≡ turn = ap (λ (l : LifeState). l.turn) fell.life ∙ is.turns in
+      let acts : (over.life.turn ≡ Serving) ⊎ (over.life.turn ≡ Finishing) = acting_turn over.life.turn (ap is_acting same ∙ served.acts) in
       record {
         at = at_still old.asked becomes is.at;
         last = last_still old.asked becomes is.last;
         handed = handed_still old.asked becomes (IsSentFor d w.queue.0 w.desk) (own_of w) is.going.handed;
-        settles = subst (SettlesBy d w.desk over (own_of w)) (sym is.does) (ap (λ (l : LifeState). l.generation) (sym fell.life), λ e ours outcome. settles_lost d.setup old over (own_of w) e fell is.turns ours outcome is.going.follows);
-        dies = death_in over.cause over.life.turn over.written (λ exited. cc (exited, serving)) (λ idle. cc (idle, serving));
-        shut = λ idle. cc (idle, serving);
+        settles = subst (SettlesBy d w.desk over (own_of w)) (sym is.does) (
+          ap (λ (l : LifeState). l.generation) (sym fell.life),
+          λ e ours outcome. settles_lost d.setup d.clients old over (own_of w) e fell (acting_held old.turn (ap is_acting is.turns ∙ served.acts)) ours outcome is.going.follows,
+        );
+        dies = death_in over.cause over.life.turn over.written (λ exited. elim acts [ inl serving ↦ cc (exited, serving) | inr finishing ↦ cc (exited, finishing) ]) (λ idle. elim acts [ inl serving ↦ cc (idle, serving) | inr finishing ↦ cc (idle, finishing) ]);
+        shut = λ idle. elim acts [ inl serving ↦ cc (idle, serving) | inr finishing ↦ cc (idle, finishing) ];
+        spent = λ finishing. served.spent (sym same ∙ finishing);
         room = is.room;
       }
 
   pub falls_idle : (old : LifeState) (over : Ending) (turn : Turn) → (turn ≡ AwaitsReady) ⊎ (turn ≡ AwaitsNext) → Fell over old → IsIn d shows (Idle old.generation) turn 0 old w → MayDie d shows over w
   falls_idle old over turn reads fell is =
-      let becomes : Becomes old.asked over.life old = record { link = over.life.link; said = old.said; turn = old.turn; made = fell.life } in
+      let becomes : Becomes old.asked over.life old = link_becomes fell.life in
       let same : over.life.turn ≡ turn = ap (λ (l : LifeState). l.turn) fell.life ∙ is.turns in
-      let turns = is.turns in
       record {
         at = at_still old.asked becomes is.at;
         last = last_still old.asked becomes is.last;
         handed = handed_still old.asked becomes (IsSentFor d w.queue.0 w.desk) (own_of w) is.going.handed;
-        settles = subst (SettlesBy d w.desk over (own_of w)) (sym is.does) (ap (λ (l : LifeState). l.generation) (sym fell.life), settles_fallen d.setup old over (own_of w) fell (λ h. elim reads [ inl r ↦ cc (r, turns, h) | inr n ↦ cc (n, turns, h) ]) is.going.follows);
+        settles = subst (SettlesBy d w.desk over (own_of w)) (sym is.does) (ap (λ (l : LifeState). l.generation) (sym fell.life), settles_fallen d.setup d.clients old over (own_of w) fell (ap is_held is.turns ∙ greeting_free turn reads) is.going.follows);
         dies = death_in over.cause over.life.turn over.written (λ exited. elim reads [ inl r ↦ cc (r, same, exited) | inr n ↦ cc (n, same, exited) ]) (λ idle. elim reads [ inl r ↦ cc (r, same, idle) | inr n ↦ cc (n, same, idle) ]);
         shut = λ idle. elim reads [ inl r ↦ cc (r, same, idle) | inr n ↦ cc (n, same, idle) ];
+        spent = λ finishing. elim reads [ inl r ↦ cc (r, same, finishing) | inr n ↦ cc (n, same, finishing) ];
         room = is.room;
       }
 
@@ -376,15 +401,16 @@ module _ {L T : Type 0} {d : Domain} {shows : T → StarterShows} (w : ServerWor
   -- or it wasn't told to end
   pub shut_dies : (old : LifeState) (over : Ending) → ShutDown over old → (over.cause ≡ causes.Shutdown → ⊥) → SawAtQueue d w.queue.0 w.desk (IsShut d.setup w.queue.0) → IsFree d shows old w → MayDie d shows over w
   shut_dies old over shut unshut saw is =
-      let becomes : Becomes old.asked over.life old = record { link = over.life.link; said = old.said; turn = old.turn; made = shut.life } in
+      let becomes : Becomes old.asked over.life old = link_becomes shut.life in
       let same : over.life.turn ≡ AwaitsInvoke = ap (λ (l : LifeState). l.turn) shut.life ∙ is.turns in
       record {
         at = at_still old.asked becomes is.at;
         last = last_still old.asked becomes is.last;
         handed = handed_still old.asked becomes (IsSentFor d w.queue.0 w.desk) (own_of w) is.going.handed;
-        settles = subst (SettlesBy d w.desk over (own_of w)) (sym is.does) (ap (λ (l : LifeState). l.generation) (sym shut.life), settles_shut d.setup old over (own_of w) shut is.turns is.going.follows);
+        settles = subst (SettlesBy d w.desk over (own_of w)) (sym is.does) (ap (λ (l : LifeState). l.generation) (sym shut.life), settles_shut d.setup d.clients old over (own_of w) shut is.turns is.going.follows);
         dies = death_in over.cause over.life.turn over.written (λ exited. cc (exited, same)) (λ idle. unshut);
         shut = λ idle. saw;
+        spent = λ finishing. cc (finishing, same);
         room = is.room;
       }
 
@@ -408,8 +434,8 @@ module _ {L T : Type 0} {d : Domain} {shows : T → StarterShows} (w : ServerWor
         at = at_still old.asked becomes at;
         last = last_still old.asked becomes last;
         going = record {
-          follows = subst (Follows d.setup (ShowsReason d desk') new) (sym {A = List Event} serves.steps.own)
-              (follows_done d.setup (ShowsReason d desk') old new (own_of w) event back (tag_of old) ours heard comes (going_on serves.steps w.queue.0 (own_of w) old is.going).follows);
+          follows = subst (Follows d.setup d.clients (ShowsReason d desk') new) (sym {A = List Event} serves.steps.own)
+              (follows_done d.setup d.clients (ShowsReason d desk') old new (own_of w) event back (tag_of old) ours heard comes (going_on serves.steps w.queue.0 (own_of w) old is.going).follows);
           handed = subst (AtEach (IsHanded new.server.0 new.generation.0 new.asked (IsSentFor d w.queue.0 desk'))) (sym {A = List Event} serves.steps.own)
               (finished_handed event (finished_event d.setup (ShowsReason d desk') back event (own_of w) comes), handed_still old.asked becomes (IsSentFor d w.queue.0 desk') (own_of w) (handed_led old.server.0 old.generation.0 d w.queue.0 w.desk desk' old.asked (own_of w) serves.steps.leads is.going.handed));
         };
@@ -474,11 +500,11 @@ module _ {L T : Type 0} {d : Domain} {shows : T → StarterShows} (w : ServerWor
       → Leads d w.desk desk' → desk'.caller.seat ≡ w.desk.caller.seat → IsServing d w.queue.0 slot' desk' → Stops causes.Exit stamp slot' w.served.slot desk'.caller.work w.desk.caller.work → IsOff d shows (at_kept w kept slot' desk')
   exits_off life over kept slot' desk' stamp is untold exits ended lives starter leads seat serving stopped =
       let turn : over.life.turn ≡ Exited = ap (λ (l : LifeState). l.turn) exits.life ∙ is.turns in
-      let becomes : Becomes life.asked over.life life = record { link = over.life.link; said = life.said; turn = life.turn; made = exits_made exits } in
+      let becomes : Becomes life.asked over.life life = link_becomes (exits_made exits) in
       record {
         at = stops_idle w over (at_still life.asked becomes is.at) (last_still life.asked becomes is.last) ended
             (handed_still life.asked becomes (IsSentFor d w.queue.0 w.desk) (own_of w) is.going.handed) kept lives starter slot' desk' leads seat serving causes.Exit stamp (sym exits.cause) (ap life_in is.does ∙ ap (λ (l : LifeState). l.generation) (sym exits.life))
-            (settles_exited d.setup life over (own_of w) exits is.turns is.going.follows) (λ idle. cc (idle, turn)) (told_last ⊥ desk' (leads_behind w.desk desk' leads seat untold)) stopped;
+            (settles_exited d.setup d.clients life over (own_of w) exits is.turns is.going.follows) (λ idle. cc (idle, turn)) (told_last ⊥ desk' (leads_behind w.desk desk' leads seat untold)) stopped;
         off = ap (λ (s : ServerSlot). s.doing) stopped.left;
         up = ap (λ (s : ServerSlot). s.shut) stopped.left;
       }
@@ -486,13 +512,13 @@ module _ {L T : Type 0} {d : Domain} {shows : T → StarterShows} (w : ServerWor
   pub exits_worn : (life : LifeState) (over : Ending) (kept : Served L T) (slot' : ServerSlot) (desk' : Desk) → IsIn d shows (Idle life.generation) Exited 0 life w → Exits over life → IsOver over → kept.lives.items ≡ w.served.lives.items ++ over ∷ [] → kept.starter ≡ w.served.starter
       → Leads d w.desk desk' → desk'.caller.seat ≡ w.desk.caller.seat → IsServing d w.queue.0 slot' desk' → (worn : Worn) (stopped : Stopped) → stopped ≡ stop_by worn → IsWorn worn w.desk.caller.work → slot' ≡ w.served.slot → desk'.caller.work ≡ w.desk.caller.work → HasEnded d shows (Some stopped) (at_kept w kept slot' desk')
   exits_worn life over kept slot' desk' is exits ended lives starter leads seat serving worn stopped by full same work =
-      let becomes : Becomes life.asked over.life life = record { link = over.life.link; said = life.said; turn = life.turn; made = exits_made exits } in
+      let becomes : Becomes life.asked over.life life = link_becomes (exits_made exits) in
       worn_still w over (at_still life.asked becomes is.at) (last_still life.asked becomes is.last) ended (handed_still life.asked becomes (IsSentFor d w.queue.0 w.desk) (own_of w) is.going.handed) kept lives starter slot' desk' leads seat serving worn stopped by full same work (subst (λ (l : LifeState). TookEach w.served.slot.server.0 (own_of w) l) (sym exits.life) (in_took is))
 
   pub shuts_worn : (life : LifeState) (over : Ending) (kept : Served L T) (slot' : ServerSlot) (desk' : Desk) → IsFree d shows life w → ShutDown over life → IsOver over → kept.lives.items ≡ w.served.lives.items ++ over ∷ [] → kept.starter ≡ w.served.starter
       → Leads d w.desk desk' → desk'.caller.seat ≡ w.desk.caller.seat → IsServing d w.queue.0 slot' desk' → (worn : Worn) (stopped : Stopped) → stopped ≡ stop_by worn → IsWorn worn w.desk.caller.work → slot' ≡ w.served.slot → desk'.caller.work ≡ w.desk.caller.work → HasEnded d shows (Some stopped) (at_kept w kept slot' desk')
   shuts_worn life over kept slot' desk' is shut ended lives starter leads seat serving worn stopped by full same work =
-      let becomes : Becomes life.asked over.life life = record { link = over.life.link; said = life.said; turn = life.turn; made = shut.life } in
+      let becomes : Becomes life.asked over.life life = link_becomes shut.life in
       worn_still w over (at_still life.asked becomes is.at) (last_still life.asked becomes is.last) ended (handed_still life.asked becomes (IsSentFor d w.queue.0 w.desk) (own_of w) is.going.handed) kept lives starter slot' desk' leads seat serving worn stopped by full same work (subst (λ (l : LifeState). TookEach w.served.slot.server.0 (own_of w) l) (sym shut.life) (in_took is))
 
   -- or it was told to end
@@ -500,13 +526,13 @@ module _ {L T : Type 0} {d : Domain} {shows : T → StarterShows} (w : ServerWor
   pub shuts_down : (life : LifeState) (over : Ending) (kept : Served L T) (slot' : ServerSlot) (desk' : Desk) (stamp : Stamp) → IsFree d shows life w → ShutDown over life → IsOver over → causes.Shutdown ≡ over.cause → kept.lives.items ≡ w.served.lives.items ++ over ∷ [] → kept.starter ≡ w.served.starter
       → Leads d w.desk desk' → desk'.caller.seat ≡ w.desk.caller.seat → IsServing d w.queue.0 slot' desk' → SawAtQueue d w.queue.0 w.desk (IsShut d.setup w.queue.0) → Stops causes.Shutdown stamp slot' w.served.slot desk'.caller.work w.desk.caller.work → HasEnded d shows None (at_kept w kept slot' desk')
   shuts_down life over kept slot' desk' stamp is shut ended why lives starter leads seat serving saw stopped =
-      let becomes : Becomes life.asked over.life life = record { link = over.life.link; said = life.said; turn = life.turn; made = shut.life } in
+      let becomes : Becomes life.asked over.life life = link_becomes shut.life in
       let now = at_still life.asked becomes is.at in
       let last = last_still life.asked becomes is.last in
       let handed = handed_still life.asked becomes (IsSentFor d w.queue.0 w.desk) (own_of w) is.going.handed in
       let told = stop_told w over now last ended handed kept lives starter slot' desk' leads seat serving causes.Shutdown stamp refl stopped in
       let at = stops_idle w over now last ended handed kept lives starter slot' desk' leads seat serving causes.Shutdown stamp why
-      (ap life_in is.does ∙ ap (λ (l : LifeState). l.generation) (sym shut.life)) (settles_shut d.setup life over (own_of w) shut is.turns is.going.follows) (λ idle. saw) (told_last ⊥ desk' told) stopped in
+      (ap life_in is.does ∙ ap (λ (l : LifeState). l.generation) (sym shut.life)) (settles_shut d.setup d.clients life over (own_of w) shut is.turns is.going.follows) (λ idle. saw) (told_last ⊥ desk' told) stopped in
       let server = ap (λ (s : ServerSlot). s.server) stopped.left in
       let off : slot'.doing ≡ Off = ap (λ (s : ServerSlot). s.doing) stopped.left in
       ends_done (at_kept w kept slot' desk') at (off_hand slot'.doing off serving.stands.hand) (inl (shut_read serving (ap (λ (s : ServerSlot). s.shut) stopped.left), queue_stays d w.desk desk' leads w.queue.0 (IsShut d.setup w.queue.0) saw))

@@ -1,20 +1,28 @@
 -- The lives of a server as its worker goes on.
-use Rattle.std.proofs.Common.{◌≡◌, ◌≢◌, ◌<◌, ◌≤◌, ℕ, zero, suc, ◌+◌, ◌==◌, ◌&&◌, Bool, true, false, cond, List, [], ◌∷◌, ◌++◌, map, Option, None, refl, sym, ◌∙◌, ap, subst, append-nil, arith}
+use Rattle.std.proofs.Common.{◌≡◌, ◌≢◌, ◌<◌, ◌≤◌, ℕ, zero, suc, ◌+◌, ◌==◌, ◌&&◌, Bool, true, false, cond, List, [], ◌∷◌, ◌++◌, map, Option, None, refl, sym, ◌∙◌, ap, subst, append-nil, arith, append_assoc}
 use Rattle.std.specs.Prelude.{reverse, take, drop}
 use Rattle.std.specs.List.{All, cons_option, filter_map}
 use Rattle.std.proofs.lemmas.Bool.{ne_eqb, false≢true}
 use Rattle.std.proofs.Common.{eq-eqb, eqb-true}
-use Rattle.std.proofs.lemmas.List.{map_push}
+use Rattle.std.proofs.lemmas.List.{map_push, reverse-append}
 use Rattle.std.proofs.lemmas.List.Elements.{All-nil, All-cons, All-head, All-tail, All-push, All-append, All-weaker}
 use Rattle.xa_desk.specs.xa_types.declared.ids.Generation.{Generation}
 use Rattle.xa_desk.specs.xa_types.declared.setup.Setup.{Setup}
+use Rattle.xa_desk.specs.xa_types.declared.call.Op.{Op}
+use Rattle.xa_desk.specs.xa_types.declared.ids.RequestId.{RequestId}
+use Rattle.xa_desk.specs.xa_worker.Going.{FitEach}
 use Rattle.xa_desk.specs.xa_events.declared.event.Event.{Event}
-use Rattle.xa_desk.specs.xa_events.declared.event.Event.TheVariants.{Take, Forward, Gone, End, Stop}
+use Rattle.xa_desk.specs.xa_events.declared.event.Event.TheVariants.{Take, Forward, Gone, Start, StartFailed, End, Stop}
 use Rattle.xa_desk.specs.xa_events.declared.event.Taken.{Taken}
-use Rattle.xa_desk.specs.xa_events.Words.{AtEach, count}
-use Rattle.xa_desk.specs.xa_events.Homes.{of_worker}
+use Rattle.xa_desk.specs.xa_events.Words.{AtEach, count, greatest}
+use Rattle.xa_desk.specs.xa_events.Homes.{Home, of_worker}
 use Rattle.xa_desk.specs.xa_events.Homes.Home.{QueueHome}
-use Rattle.xa_desk.specs.xa_events.Caller.{tick_in}
+use Rattle.xa_desk.specs.xa_events.Caller.{tick_in, tick_floor, ticks, is_call_of, newest_call, op_of, accepted_in}
+use Rattle.xa_desk.specs.xa_events.Said.{is_op}
+use Rattle.xa_desk.specs.xa_events.State.{caller_of}
+use Rattle.xa_desk.specs.xa_events.Server.{doing}
+use Rattle.xa_desk.specs.xa_events.declared.event.Doing.{Doing}
+use Rattle.xa_desk.specs.xa_events.declared.event.Doing.TheVariants.{Busy}
 use Rattle.xa_desk.specs.xa_events.Cases.{IsShut}
 use Rattle.xa_desk.specs.xa_frame.declared.frame.Frame.{Frame}
 use Rattle.xa_desk.specs.xa_stamp.declared.home.Stamped.{Stamped}
@@ -22,19 +30,21 @@ use Rattle.xa_desk.specs.xa_worker.Seen.{past_in, SawQueue}
 use Rattle.xa_desk.proofs.xa_worker.Lists.{count_part, past_in-append}
 use Rattle.xa_desk.specs.xa_held.declared.cargo.Invocation.{Invocation}
 use Rattle.xa_desk.specs.xa_worker.Work.{WorkState, theirs}
-use Rattle.xa_desk.specs.xa_pipe.Frames.{is_of_life, is_take_in}
-use Rattle.xa_desk.specs.xa_pipe.Life.{stops_life}
-use Rattle.xa_desk.specs.xa_pipe.Standing.{LifeState, Ending}
-use Rattle.xa_desk.specs.xa_pipe.Following.{is_of, HasStopped}
-use Rattle.xa_desk.proofs.xa_pipe.Followed.{stopped_idle}
+use Rattle.xa_desk.specs.xa_pipe.Frames.{is_of_life, is_take_in, is_busy_in}
+use Rattle.xa_desk.specs.xa_pipe.Life.{stops_life, StopsSpent}
+use Rattle.xa_desk.specs.xa_pipe.Standing.{LifeState, Ending, invokes_of}
+use Rattle.xa_desk.specs.xa_pipe.Following.{is_of, due_in_life, AreCall, HasStopped}
+use Rattle.xa_desk.proofs.xa_pipe.Followed.{stopped_beside}
+use Rattle.xa_desk.proofs.xa_pipe.Dues.{call_of_none, due_beside, due_elsewhere}
+use Rattle.xa_desk.proofs.xa_worker.Calls.{call_of_worker}
 use Rattle.xa_desk.specs.declared.domain.Domain.{Domain}
 use Rattle.xa_desk.specs.declared.desk.Desk.{Desk}
 use Rattle.xa_desk.specs.Whole.{entries_of}
-use Rattle.xa_desk.specs.Desks.{Leads}
+use Rattle.xa_desk.specs.Desks.{Leads, FitsCalls}
 use Rattle.xa_desk.specs.Serving.{IsSentFor}
 use Rattle.xa_server_worker.specs.Lives.{generation_in, lives_in, fails_start, failed_starts, IsHanded, EndsShut, IsLived}
 use Rattle.xa_server_worker.specs.Steps.{Steps}
-use Rattle.xa_server_worker.specs.Standing.{HasLived, IsGoing}
+use Rattle.xa_server_worker.specs.Standing.{HasLived, HasCalled, IsGoing}
 use Rattle.xa_desk.specs.xa_pipe.Life.{Reasons}
 use Rattle.xa_desk.proofs.xa_pipe.Followed.{follows_led, stopped_led}
 use Rattle.xa_server_worker.specs.Reasons.{ShowsReason}
@@ -97,15 +107,6 @@ skip_map f (e ∷ more) own none = ap (λ o. cons_option o (filter_map f (more +
 pub skip_count : (p : Event → Bool) (more own : List Event) → All (λ (e : Event). p e ≡ false) more → count p (more ++ own) ≡ count p own
 skip_count p [] own none = refl
 skip_count p (e ∷ more) own none = ap (λ b. cond b (count p (more ++ own) + 1) (count p (more ++ own))) (All-head (λ (x : Event). p x ≡ false) e more none) ∙ skip_count p more own (All-tail (λ (x : Event). p x ≡ false) e more none)
-
-pub lives_same : (server g : ℕ) (more own : List Event) → All (OfLife g) more → lives_in server (more ++ own) ≡ lives_in server own
-lives_same server g more own its = ap reverse (skip_map (generation_in server) more own (All-weaker (OfLife g) (λ (e : Event). generation_in server e ≡ None) (no_start server g) more its))
-
-pub failed_same : (server g : ℕ) (more own : List Event) → All (OfLife g) more → failed_starts server (more ++ own) ≡ failed_starts server own
-failed_same server g more own its = skip_count (fails_start server) more own (All-weaker (OfLife g) (λ (e : Event). fails_start server e ≡ false) (no_failure server g) more its)
-
-pub ticks_same : (clients caller g : ℕ) (more own : List Event) → All (OfLife g) more → filter_map (tick_in clients caller) (more ++ own) ≡ filter_map (tick_in clients caller) own
-ticks_same clients caller g more own its = skip_map (tick_in clients caller) more own (All-weaker (OfLife g) (λ (e : Event). tick_in clients caller e ≡ None) (no_tick clients caller g) more its)
 
 -- ---- what was handed on
 
@@ -181,16 +182,87 @@ stops_own clients worker server g number (Stop x) is = eq-eqb (clients + x.serve
         by false b is = is
 stops_own clients worker server g number _ is = absurd (false≢true is)
 
+-- ---- what was noted, and lives that ended
+
+no_call : (caller g : ℕ) (e : Event) → OfLife g e → is_call_of caller e ≡ false
+no_call caller g (Take t) its = refl
+no_call caller g (Forward f) its = refl
+no_call caller g (End e) its = refl
+no_call caller g (Stop x) its = refl
+no_call caller g (Gone s) its = refl
+no_call caller g _ its = absurd its
+
+pub no_calls : (caller g : ℕ) (more : List Event) → All (OfLife g) more → All (λ (e : Event). is_call_of caller e ≡ false) more
+no_calls caller g more its = All-weaker (OfLife g) (λ (e : Event). is_call_of caller e ≡ false) (no_call caller g) more its
+
+-- what the worker noted since, beside the lives of its server but the one with that number: it is no event of theirs, no start and no tick, and tells
+-- nothing in them
+pub record Adds (d : Domain) (server made : ℕ) (more : List Event) (old new : Desk) : Type 0 where
+  pub steps : Steps d more old new
+  pub number : old.caller.work.clients + server ≡ old.caller.work.id.0
+  pub starts : All (λ (e : Event). generation_in server e ≡ None) more
+  pub failures : All (λ (e : Event). fails_start server e ≡ false) more
+  pub ticks : All (λ (e : Event). tick_in old.caller.work.clients old.caller.work.id.0 e ≡ None) more
+  pub others : (g : ℕ) → g ≢ made → All (λ (e : Event). is_of server g e ≡ false) more
+  pub due : (g : ℕ) → g ≢ made → due_in_life d.clients server g (theirs new.caller.work) ≡ due_in_life d.clients server g (theirs old.caller.work)
+
+-- the events of that life are so
+pub life_adds : {d : Domain} {old new : Desk} {more : List Event} → Steps d more old new → (server made : ℕ) → old.caller.work.clients + server ≡ old.caller.work.id.0 → All (OfLife made) more → Adds d server made more old new
+life_adds {d} {old} {new} {more} steps server made number its =
+    let others : (g : ℕ) → g ≢ made → All (λ (e : Event). is_of server g e ≡ false) more = λ g apart. All-weaker (OfLife made) (λ (e : Event). is_of server g e ≡ false) (other_life server made g apart) more its in
+    record {
+      steps = steps;
+      number = number;
+      starts = All-weaker (OfLife made) (λ (e : Event). generation_in server e ≡ None) (no_start server made) more its;
+      failures = All-weaker (OfLife made) (λ (e : Event). fails_start server e ≡ false) (no_failure server made) more its;
+      ticks = All-weaker (OfLife made) (λ (e : Event). tick_in old.caller.work.clients old.caller.work.id.0 e ≡ None) (no_tick old.caller.work.clients old.caller.work.id.0 made) more its;
+      others = others;
+      due = λ g apart. ap (due_in_life d.clients server g) steps.own ∙ due_beside d.clients server g more (theirs old.caller.work) (others g apart) (no_calls (caller_of d.clients server) made more its);
+    }
+
+-- and so are those of a new call that was made in it
+call_no_start : (caller n server : ℕ) (e : Event) → is_op caller n e ≡ true → generation_in server e ≡ None
+call_no_start caller n server (Start b) is = absurd (cc is)
+call_no_start caller n server _ is = refl
+
+call_no_failure : (caller n server : ℕ) (e : Event) → is_op caller n e ≡ true → fails_start server e ≡ false
+call_no_failure caller n server (StartFailed b) is = absurd (cc is)
+call_no_failure caller n server _ is = refl
+
+-- what holds of each event of a call
+each_call : (caller n : ℕ) (P : Event → Type 0) → ((e : Event) → is_op caller n e ≡ true → P e) → (more : List Event) → AreCall caller n more → All P more
+each_call caller n P each (e ∷ []) is = All-cons P e [] (each e is) (All-nil P)
+each_call caller n P each (e ∷ a ∷ []) (is, other, its, accepts) = All-cons P e (a ∷ []) (each e is) (All-cons P a [] (each a its) (All-nil P))
+each_call caller n P each [] are = absurd are
+each_call caller n P each (e ∷ a ∷ b ∷ more) are = absurd are
+
+not_busy : (g made : ℕ) (doing : Doing) (generation : Generation) (request : RequestId) → doing ≡ Busy generation request → generation.0 ≡ made → g ≢ made → is_busy_in g doing ≡ false
+not_busy g made doing generation request is number apart = ap (is_busy_in g) is ∙ ne_eqb generation.0 g (λ same. apart (sym same ∙ number))
+
+pub call_adds : {d : Domain} {old new : Desk} {more : List Event} → Steps d more old new → (server made n : ℕ) (generation : Generation) (request : RequestId) → old.caller.work.clients + server ≡ old.caller.work.id.0
+    → AreCall (caller_of d.clients server) n more → count (is_op (caller_of d.clients server) n) (theirs old.caller.work) ≡ 0 → doing server (theirs old.caller.work) ≡ Busy generation request → generation.0 ≡ made
+    → All (λ (e : Event). tick_in old.caller.work.clients old.caller.work.id.0 e ≡ None) more → Adds d server made more old new
+call_adds {d} {old} {new} {more} steps server made n generation request number are fresh busy its ticks = record {
+  steps = steps;
+  number = number;
+  starts = each_call (caller_of d.clients server) n (λ (e : Event). generation_in server e ≡ None) (call_no_start (caller_of d.clients server) n server) more are;
+  failures = each_call (caller_of d.clients server) n (λ (e : Event). fails_start server e ≡ false) (call_no_failure (caller_of d.clients server) n server) more are;
+  ticks = ticks;
+  others = λ g apart. each_call (caller_of d.clients server) n (λ (e : Event). is_of server g e ≡ false) (call_of_none (caller_of d.clients server) n server g) more are;
+  due = λ g apart. ap (due_in_life d.clients server g) steps.own
+      ∙ due_elsewhere d.clients server g n more (theirs old.caller.work) are fresh (not_busy g made (doing server (theirs old.caller.work)) generation request busy its apart);
+}
+
 module _ {d : Domain} {old new : Desk} {more : List Event} (steps : Steps d more old new) where
-  -- what was noted since is no end of a life of which the worker noted none
-  rest_none : (server g : ℕ) → old.caller.work.clients + server ≡ old.caller.work.id.0 → All (λ (e : Event). stops_life server g e ≡ false) more → All (λ (x : Stamped). stops_life server g x.event ≡ false) steps.leads.own.0
-  rest_none server g number none =
-      let p : Event → Bool = stops_life server g in
+  -- what was noted since passes no test that the worker's own events alone pass, where none of these does
+  pub rest_none : (p : Event → Bool) → ((e : Event) → p e ≡ true → of_worker old.caller.work.clients old.caller.work.id.0 e ≡ true) → All (λ (e : Event). p e ≡ false) more → All (λ (x : Stamped). p x.event ≡ false) steps.leads.own.0
+  rest_none p its none =
       let w : WorkState = old.caller.work in
       let w' : WorkState = new.caller.work in
       let rest : List Stamped = steps.leads.own.0 in
-      let now : count p (theirs w') ≡ count p (past_in w'.own) = count_part p (of_worker w'.clients w'.id.0) (stops_own w'.clients w'.id.0 server g (ap (λ n. n + server) steps.clients ∙ number ∙ ap (λ i. i.0) (sym steps.id))) (past_in w'.own) in
-      let before : count p (theirs w) ≡ count p (past_in w.own) = count_part p (of_worker w.clients w.id.0) (stops_own w.clients w.id.0 server g number) (past_in w.own) in
+      let its' : (e : Event) → p e ≡ true → of_worker w'.clients w'.id.0 e ≡ true = λ e is. ap (λ n. of_worker n w'.id.0 e) steps.clients ∙ (ap (λ i. of_worker w.clients i.0 e) steps.id ∙ its e is) in
+      let now : count p (theirs w') ≡ count p (past_in w'.own) = count_part p (of_worker w'.clients w'.id.0) its' (past_in w'.own) in
+      let before : count p (theirs w) ≡ count p (past_in w.own) = count_part p (of_worker w.clients w.id.0) its (past_in w.own) in
       let same : count p (theirs w') ≡ count p (theirs w) = ap (count p) steps.own ∙ skip_count p more (theirs w) none in
       let parts : count p (past_in w'.own) ≡ count p (past_in rest) + count p (past_in w.own) = ap (λ l. count p (past_in l)) steps.leads.own.1 ∙ ap (count p) (past_in-append w.own rest) ∙ count_append p (past_in rest) (past_in w.own) in
       none_counted p rest (omega (arith, now, before, same, parts))
@@ -198,78 +270,146 @@ module _ {d : Domain} {old new : Desk} {more : List Event} (steps : Steps d more
   pub shut_on : (queue : ℕ) (over : Ending) → old.caller.work.clients + over.life.server.0 ≡ old.caller.work.id.0 → All (λ (e : Event). is_of over.life.server.0 over.life.generation.0 e ≡ false) more → EndsShut d queue old over → EndsShut d queue new over
   shut_on queue over number none shut whole on =
       let P : Stamped → Type 0 = λ x. stops_life over.life.server.0 over.life.generation.0 x.event ≡ true → SawQueue d.setup queue (entries_of whole (QueueHome queue)) x.stamp (IsShut d.setup queue) in
-      let unstopped = rest_none over.life.server.0 over.life.generation.0 number (All-weaker (λ (e : Event). is_of over.life.server.0 over.life.generation.0 e ≡ false) (λ (e : Event). stops_life over.life.server.0 over.life.generation.0 e ≡ false) (stops_none over.life.server.0 over.life.generation.0) more none) in
+      let unstopped = rest_none (stops_life over.life.server.0 over.life.generation.0) (stops_own old.caller.work.clients old.caller.work.id.0 over.life.server.0 over.life.generation.0 number)
+      (All-weaker (λ (e : Event). is_of over.life.server.0 over.life.generation.0 e ≡ false) (λ (e : Event). stops_life over.life.server.0 over.life.generation.0 e ≡ false) (stops_none over.life.server.0 over.life.generation.0) more none) in
       subst (All P) (sym {A = List Stamped} steps.leads.own.1)
       (All-append P old.caller.work.own steps.leads.own.0 (shut whole (steps.leads.before whole on))
       (All-weaker (λ (x : Stamped). stops_life over.life.server.0 over.life.generation.0 x.event ≡ false) P (λ x off is. absurd (false≢true (sym off ∙ is))) steps.leads.own.0 unstopped))
 
-  stopped_more : (setup : Setup) (Why : Reasons) (over : Ending) (others own : List Event) → All (λ (e : Event). is_of over.life.server.0 over.life.generation.0 e ≡ false) others → HasStopped setup Why over own → HasStopped setup Why over (others ++ own)
-  stopped_more setup Why over [] own none is = is
-  stopped_more setup Why over (e ∷ others) own none is =
-      let P : Event → Type 0 = λ x. is_of over.life.server.0 over.life.generation.0 x ≡ false in
-      stopped_idle setup over e (others ++ own) (All-head P e others none) (stopped_more setup Why over others own (All-tail P e others none) is)
+  pub going_on : (queue : ℕ) (own : List Event) (life : LifeState) → IsGoing d queue old own life → IsGoing d queue new own life
+  going_on queue own life is =
+      record { follows = follows_led d.setup (ShowsReason d old) (ShowsReason d new) (reason_led d old new steps.leads) d.clients life own is.follows; handed = handed_led life.server.0 life.generation.0 d queue old new (invokes_of life) own steps.leads is.handed }
 
-  -- a life that ended stays so, whatever other lives do
-  pub lived_one : (name : List ℕ) (queue server : ℕ) (over : Ending) → old.caller.work.clients + server ≡ old.caller.work.id.0 → All (λ (e : Event). is_of server over.life.generation.0 e ≡ false) more → IsLived d name queue server old over → IsLived d name queue server new over
-  lived_one name queue server over number none is =
-      let ours : All (λ (e : Event). is_of over.life.server.0 over.life.generation.0 e ≡ false) more = subst (λ s. All (λ (e : Event). is_of s over.life.generation.0 e ≡ false) more) (sym is.its) none in
+-- its server's calls had come to their end before its end, which isn't among these
+spent_more : (clients server g : ℕ) (more own : List Event) → All (λ (e : Event). is_of server g e ≡ false) more → AtEach (StopsSpent clients server g) own → AtEach (StopsSpent clients server g) (more ++ own)
+spent_more clients server g [] own none each = each
+spent_more clients server g (e ∷ more) own none each = (
+  λ stops. absurd (false≢true (sym (stops_none server g e (All-head (λ (x : Event). is_of server g x ≡ false) e more none)) ∙ stops)),
+  spent_more clients server g more own (All-tail (λ (x : Event). is_of server g x ≡ false) e more none) each,
+)
+
+module _ {d : Domain} {old new : Desk} {more : List Event} {server made : ℕ} (adds : Adds d server made more old new) where
+  abbrev steps : Steps d more old new
+  steps = adds.steps
+
+  -- a life that ended stays so
+  pub lived_one : (name : List ℕ) (queue : ℕ) (over : Ending) → over.life.generation.0 ≢ made → IsLived d name queue server old over → IsLived d name queue server new over
+  lived_one name queue over apart is =
+      let g : ℕ = over.life.generation.0 in
+      let none = adds.others g apart in
+      let ours : All (λ (e : Event). is_of over.life.server.0 g e ≡ false) more = subst (λ s. All (λ (e : Event). is_of s g e ≡ false) more) (sym is.its) none in
+      let due : due_in_life d.clients over.life.server.0 g (more ++ theirs old.caller.work) ≡ due_in_life d.clients over.life.server.0 g (theirs old.caller.work) =
+      ap (due_in_life d.clients over.life.server.0 g) (sym steps.own) ∙ subst (λ s. due_in_life d.clients s g (theirs new.caller.work) ≡ due_in_life d.clients s g (theirs old.caller.work)) (sym is.its) (adds.due g apart) in
       record {
         over_is = is.over_is;
         its = is.its;
         named = is.named;
-        stopped = subst (HasStopped d.setup (ShowsReason d new) over) (sym {A = List Event} steps.own)
-            (stopped_more d.setup (ShowsReason d new) over more (theirs old.caller.work) ours (stopped_led d.setup (ShowsReason d old) (ShowsReason d new) (reason_led d old new steps.leads) over (theirs old.caller.work) is.stopped));
-        shut = λ turn. shut_on queue over (ap (λ s. old.caller.work.clients + s) is.its ∙ number) ours (is.shut turn);
-        handed = subst (AtEach (IsHanded server over.life.generation.0 over.life.asked (IsSentFor d queue new))) (sym {A = List Event} steps.own)
-            (handed_more server over.life.generation.0 over.life.asked (IsSentFor d queue new) more (theirs old.caller.work) none (handed_led server over.life.generation.0 d queue old new over.life.asked (theirs old.caller.work) steps.leads is.handed));
+        stopped = subst (HasStopped d.setup d.clients (ShowsReason d new) over) (sym {A = List Event} steps.own)
+            (stopped_beside d.setup d.clients over more (theirs old.caller.work) ours due (stopped_led d.setup (ShowsReason d old) (ShowsReason d new) (reason_led d old new steps.leads) d.clients over (theirs old.caller.work) is.stopped));
+        shut = λ turn. shut_on steps queue over (ap (λ s. old.caller.work.clients + s) is.its ∙ adds.number) ours (is.shut turn);
+        spent = λ turn. subst (AtEach (StopsSpent d.clients over.life.server.0 g)) (sym {A = List Event} steps.own) (spent_more d.clients over.life.server.0 g more (theirs old.caller.work) ours (is.spent turn));
+        handed = subst (AtEach (IsHanded server g (invokes_of over.life) (IsSentFor d queue new))) (sym {A = List Event} steps.own)
+            (handed_more server g (invokes_of over.life) (IsSentFor d queue new) more (theirs old.caller.work) none (handed_led server g d queue old new (invokes_of over.life) (theirs old.caller.work) steps.leads is.handed));
       }
 
-  -- and so do all, where what was noted is of a life that is none of theirs
-  pub lived_all : (name : List ℕ) (queue server n g : ℕ) (lives : List Ending) → old.caller.work.clients + server ≡ old.caller.work.id.0 → All (OfLife g) more → All (λ (over : Ending). over.life.generation.0 + n ≤ g) lives → 0 < n
-      → All (IsLived d name queue server old) lives → All (IsLived d name queue server new) lives
-  lived_all name queue server n g [] number its below some each = All-nil (IsLived d name queue server new)
-  lived_all name queue server n g (over ∷ lives) number its below some each =
-      let low = All-head (λ (x : Ending). x.life.generation.0 + n ≤ g) over lives below in
+  -- and so do all, where that life is none of theirs
+  pub lived_all : (name : List ℕ) (queue : ℕ) (lives : List Ending) → All (λ (over : Ending). over.life.generation.0 ≢ made) lives → All (IsLived d name queue server old) lives → All (IsLived d name queue server new) lives
+  lived_all name queue [] apart each = All-nil (IsLived d name queue server new)
+  lived_all name queue (over ∷ lives) apart each =
       All-cons (IsLived d name queue server new) over lives
-      (lived_one name queue server over number (All-weaker (OfLife g) (λ (e : Event). is_of server over.life.generation.0 e ≡ false) (other_life server g over.life.generation.0 (λ same. absurd (omega (arith, same, low, some)))) more its) (All-head (IsLived d name queue server old) over lives each))
-      (lived_all name queue server n g lives number its (All-tail (λ (x : Ending). x.life.generation.0 + n ≤ g) over lives below) some (All-tail (IsLived d name queue server old) over lives each))
+      (lived_one name queue over (All-head (λ (x : Ending). x.life.generation.0 ≢ made) over lives apart) (All-head (IsLived d name queue server old) over lives each))
+      (lived_all name queue lives (All-tail (λ (x : Ending). x.life.generation.0 ≢ made) over lives apart) (All-tail (IsLived d name queue server old) over lives each))
 
-  pub going_on : (queue : ℕ) (own : List Event) (life : LifeState) → IsGoing d queue old own life → IsGoing d queue new own life
-  going_on queue own life is = record { follows = follows_led d.setup (ShowsReason d old) (ShowsReason d new) (reason_led d old new steps.leads) life own is.follows; handed = handed_led life.server.0 life.generation.0 d queue old new life.asked own steps.leads is.handed }
+  unborn_more : (g : ℕ) → g ≢ made → All (λ (e : Event). is_of server g e ≡ false) (theirs old.caller.work) → All (λ (e : Event). is_of server g e ≡ false) (theirs new.caller.work)
+  unborn_more g apart unborn =
+      let P : Event → Type 0 = λ e. is_of server g e ≡ false in
+      subst (All P) (sym {A = List Event} steps.own) (All-append P more (theirs old.caller.work) (adds.others g apart) unborn)
+
+  pub lives_same : lives_in server (theirs new.caller.work) ≡ lives_in server (theirs old.caller.work)
+  lives_same = ap (lives_in server) steps.own ∙ ap reverse (skip_map (generation_in server) more (theirs old.caller.work) adds.starts)
+
+  pub failed_same : failed_starts server (theirs new.caller.work) ≡ failed_starts server (theirs old.caller.work)
+  failed_same = ap (failed_starts server) steps.own ∙ skip_count (fails_start server) more (theirs old.caller.work) adds.failures
+
+  -- no tick was read
+  pub floor_same : tick_floor new.caller.work.clients new.caller.work.id.0 (theirs new.caller.work) ≡ tick_floor old.caller.work.clients old.caller.work.id.0 (theirs old.caller.work)
+  unfolding ticks
+  floor_same =
+      ap (λ n. tick_floor n new.caller.work.id.0 (theirs new.caller.work)) steps.clients ∙ ap (λ i. tick_floor old.caller.work.clients i.0 (theirs new.caller.work)) steps.id ∙ ap (tick_floor old.caller.work.clients old.caller.work.id.0) steps.own
+      ∙ ap (greatest 0) (skip_map (tick_in old.caller.work.clients old.caller.work.id.0) more (theirs old.caller.work) adds.ticks)
 
   -- ---- with the life that goes on
 
-  unborn_more : (server g : ℕ) → ((h : ℕ) → g < h → All (λ (e : Event). is_of server h e ≡ false) (theirs old.caller.work)) → All (OfLife g) more → (h : ℕ) → g < h → All (λ (e : Event). is_of server h e ≡ false) (theirs new.caller.work)
-  unborn_more server g unborn its h above =
-      let P : Event → Type 0 = λ e. is_of server h e ≡ false in
-      subst (All P) (sym {A = List Event} steps.own) (All-append P more (theirs old.caller.work) (All-weaker (OfLife g) P (other_life server g h (λ same. absurd (omega (arith, same, above)))) more its) (unborn h above))
-
   -- the life that goes on noted these
-  pub lives_on : (name : List ℕ) (queue server made : ℕ) (lives : List Ending) (g : Generation) → old.caller.work.clients + server ≡ old.caller.work.id.0 → All (OfLife made) more → HasLived d name queue server made old lives (g ∷ []) → HasLived d name queue server made new lives (g ∷ [])
-  lives_on name queue server made lives g number its is = record {
-    are = is.are ∙ sym (ap (lives_in server) steps.own ∙ lives_same server made more (theirs old.caller.work) its);
-    each = lived_all name queue server 1 made lives number its is.earlier (omega arith) is.each;
+  pub lives_on : (name : List ℕ) (queue : ℕ) (lives : List Ending) (g : Generation) → HasLived d name queue server made old lives (g ∷ []) → HasLived d name queue server made new lives (g ∷ [])
+  lives_on name queue lives g is = record {
+    are = is.are ∙ sym lives_same;
+    each = lived_all name queue lives (All-weaker (λ (x : Ending). x.life.generation.0 + 1 ≤ made) (λ (x : Ending). x.life.generation.0 ≢ made) (λ x low same. absurd (omega (arith, low, same))) lives is.earlier) is.each;
     earlier = is.earlier;
-    unborn = unborn_more server made is.unborn its;
+    unborn = λ h above. unborn_more h (λ same. absurd (omega (arith, same, above))) (is.unborn h above);
+    untold = λ h above. adds.due h (λ same. absurd (omega (arith, same, above))) ∙ is.untold h above;
   }
 
   -- and ended, as it is kept
-  pub lives_end : (name : List ℕ) (queue server made : ℕ) (lives : List Ending) (over : Ending) → old.caller.work.clients + server ≡ old.caller.work.id.0 → All (OfLife made) more → over.life.generation.0 ≡ made → IsLived d name queue server new over
+  pub lives_end : (name : List ℕ) (queue : ℕ) (lives : List Ending) (over : Ending) → over.life.generation.0 ≡ made → IsLived d name queue server new over
       → HasLived d name queue server made old lives (over.life.generation ∷ []) → HasLived d name queue server made new (lives ++ over ∷ []) []
-  lives_end name queue server made lives over number its last ended is =
-      let on = lives_on name queue server made lives over.life.generation number its is in
+  lives_end name queue lives over last ended is =
+      let on = lives_on name queue lives over.life.generation is in
       record {
         are = append-nil (map (λ (x : Ending). x.life.generation) (lives ++ over ∷ [])) ∙ map_push (λ (x : Ending). x.life.generation) lives over ∙ on.are;
         each = All-push (IsLived d name queue server new) lives over on.each ended;
         earlier = All-push (λ (x : Ending). x.life.generation.0 + 0 ≤ made) lives over (All-weaker (λ (x : Ending). x.life.generation.0 + 1 ≤ made) (λ (x : Ending). x.life.generation.0 + 0 ≤ made) (λ x low. omega (arith, low)) lives on.earlier) (omega (arith, last));
         unborn = on.unborn;
+        untold = on.untold;
       }
 
-  -- while the server is off nothing of a life is noted
-  pub lives_off : (name : List ℕ) (queue server made : ℕ) (lives : List Ending) → old.caller.work.clients + server ≡ old.caller.work.id.0 → ((g : ℕ) → All (OfLife g) more) → HasLived d name queue server made old lives [] → HasLived d name queue server made new lives []
-  lives_off name queue server made lives number its is = record {
-    are = is.are ∙ sym (ap (lives_in server) steps.own ∙ lives_same server 0 more (theirs old.caller.work) (its 0));
-    each = lived_all name queue server 1 (made + 1) lives number (its (made + 1)) (All-weaker (λ (x : Ending). x.life.generation.0 + 0 ≤ made) (λ (x : Ending). x.life.generation.0 + 1 ≤ made + 1) (λ x low. omega (arith, low)) lives is.earlier) (omega arith) is.each;
-    earlier = is.earlier;
-    unborn = unborn_more server made is.unborn (its made);
-  }
+-- while the server is off nothing of a life is noted
+pub lives_off : {d : Domain} {old new : Desk} {more : List Event} {server : ℕ} → ((g : ℕ) → Adds d server g more old new) → (name : List ℕ) (queue made : ℕ) (lives : List Ending) → HasLived d name queue server made old lives [] → HasLived d name queue server made new lives []
+lives_off {d} {old} {new} {more} {server} adds name queue made lives is = record {
+  are = is.are ∙ sym (lives_same (adds 0));
+  each = lived_all (adds (made + 1)) name queue lives (All-weaker (λ (x : Ending). x.life.generation.0 + 0 ≤ made) (λ (x : Ending). x.life.generation.0 ≢ made + 1) (λ x low same. absurd (omega (arith, low, same))) lives is.earlier) is.each;
+  earlier = is.earlier;
+  unborn = λ h above. unborn_more (adds made) h (λ same. absurd (omega (arith, same, above))) (is.unborn h above);
+  untold = λ h above. (adds made).due h (λ same. absurd (omega (arith, same, above))) ∙ is.untold h above;
+}
+
+-- ---- its calls
+
+newest_kept : (caller : ℕ) (e : Event) (past : List Event) → is_call_of caller e ≡ false → newest_call caller (e ∷ past) ≡ newest_call caller past
+unfolding newest_call
+newest_kept caller e past none = rw none refl
+
+pub newest_same : (caller : ℕ) (more own : List Event) → All (λ (e : Event). is_call_of caller e ≡ false) more → newest_call caller (more ++ own) ≡ newest_call caller own
+newest_same caller [] own none = refl
+newest_same caller (e ∷ more) own none =
+    newest_kept caller e (more ++ own) (All-head (λ (x : Event). is_call_of caller x ≡ false) e more none) ∙ newest_same caller more own (All-tail (λ (x : Event). is_call_of caller x ≡ false) e more none)
+
+-- what was noted behind these is of no call
+fit_more : (setup : Setup) (clients : ℕ) (entries : Home → List Stamped) (caller : ℕ) (ops : List Op) (own rest : List Stamped) → All (λ (x : Stamped). is_call_of caller x.event ≡ false) rest → FitEach setup clients entries caller ops own
+    → FitEach setup clients entries caller ops (own ++ rest)
+fit_more setup clients entries caller ops own [] none fits = subst (FitEach setup clients entries caller ops) (sym (append-nil own)) fits
+fit_more setup clients entries caller ops own (x ∷ rest) none fits =
+    let first = All-head (λ (y : Stamped). is_call_of caller y.event ≡ false) x rest none in
+    subst (FitEach setup clients entries caller ops) (append_assoc own (x ∷ []) rest)
+    (fit_more setup clients entries caller ops (own ++ x ∷ []) rest (All-tail (λ (y : Stamped). is_call_of caller y.event ≡ false) x rest none)
+    (subst (AtEach _) (sym (reverse-append own (x ∷ []))) ((λ is. absurd (false≢true (sym first ∙ is))), fits)))
+
+module _ {d : Domain} {old new : Desk} {more : List Event} (steps : Steps d more old new) where
+  -- what it noted is of no call
+  pub fits_still : (ops : List Op) → All (λ (e : Event). is_call_of old.caller.work.id.0 e ≡ false) more → FitsCalls d ops old → FitsCalls d ops new
+  fits_still ops none fits whole on =
+      let caller : ℕ = old.caller.work.id.0 in
+      subst (λ i. FitEach d.setup d.clients (entries_of whole) i ops new.caller.work.own) (ap (λ i. i.0) (sym steps.id))
+      (subst (FitEach d.setup d.clients (entries_of whole) caller ops) (sym {A = List Stamped} steps.leads.own.1)
+      (fit_more d.setup d.clients (entries_of whole) caller ops old.caller.work.own steps.leads.own.0 (rest_none steps (is_call_of caller) (call_of_worker old.caller.work.clients caller) none) (fits whole (steps.leads.before whole on))))
+
+  pub called_still : (ops : List Op) → All (λ (e : Event). is_call_of old.caller.work.id.0 e ≡ false) more → HasCalled d ops old → HasCalled d ops new
+  called_still ops none is =
+      let caller : ℕ = old.caller.work.id.0 in
+      let same : newest_call new.caller.work.id.0 (theirs new.caller.work) ≡ newest_call caller (theirs old.caller.work) =
+      ap (λ i. newest_call i.0 (theirs new.caller.work)) steps.id ∙ (ap (newest_call caller) steps.own ∙ newest_same caller more (theirs old.caller.work) none) in
+      record {
+        last = ap op_of same ∙ is.last;
+        over = ap accepted_in same ∙ is.over;
+        fits = λ behind. fits_still (ops ++ behind) none (is.fits behind);
+      }

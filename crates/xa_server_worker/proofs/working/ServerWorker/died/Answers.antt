@@ -19,9 +19,9 @@ returns-clause-over g c =
     let dies = subst (λ (s : ServerSlot). Dies c.cause-cause.result c.in_ok-die.field-0 slot' s desk'.caller.work w.desk.caller.work) c.keep.ensures.slot c.in_ok-die.ensures.ok in
     let why = c.cause-cause.ensures.value in
     let death = ap is_death why ∙ may.dies c.cause-cause.ensures.over.may in (
-      dies_off w c.args.over may.at may.last c.cause-cause.ensures.over may.handed kept c.keep.ensures.lives c.keep.ensures.starter slot' desk' c.die.ensures.leads c.die.ensures.rest.1 serving c.cause-cause.result why death may.shut c.in_ok-die.field-0 w.served.slot.doing refl may.settles dies,
+      dies_off w c.args.over may.at may.last c.cause-cause.ensures.over may.handed kept c.keep.ensures.lives c.keep.ensures.starter slot' desk' c.die.ensures.leads c.die.ensures.rest.1 serving c.cause-cause.result why death may.shut may.spent c.in_ok-die.field-0 w.served.slot.doing refl may.settles dies,
       c.in_ok-die.ensures.told,
-      dies_told w c.args.over may.at may.last c.cause-cause.ensures.over may.handed kept c.keep.ensures.lives c.keep.ensures.starter slot' desk' c.die.ensures.leads c.die.ensures.rest.1 serving c.cause-cause.result why death may.shut c.in_ok-die.field-0 w.served.slot.doing dies,
+      dies_told w c.args.over may.at may.last c.cause-cause.ensures.over may.handed kept c.keep.ensures.lives c.keep.ensures.starter slot' desk' c.die.ensures.leads c.die.ensures.rest.1 serving c.cause-cause.result why death may.shut may.spent c.in_ok-die.field-0 w.served.slot.doing dies,
     )
 
 pub returns-in_err-die-clause-halted : goal.returns-in_err-die-clause-halted
