@@ -48,6 +48,7 @@ use Rattle.xa_desk.specs.Passing.{IsPassing, holding}
 use Rattle.xa_desk.specs.Serving.{IsServing, IsTaken, IsToTell, Sees}
 use Rattle.xa_desk.proofs.Staying.{found_stays}
 use Rattle.xa_desk.proofs.Stopping.{same_leads}
+use Rattle.xa_desk.proofs.Taking.{hand_seen}
 use Rattle.xa_server_worker.specs.declared.passing.Tried.{Tried}
 use Rattle.xa_server_worker.specs.declared.passing.Tried.TheVariants as tries
 use Rattle.xa_server_worker.specs.Reasons.{ShowsReason}
@@ -329,7 +330,7 @@ module _ {d : Domain} {queue : ℕ} where
         by = (
           (named, ended.2),
           shows_reason d old new desk leads slot.server number service payload ended.0 (BadForward named) fails.finishes.stamp ended.3 ended.2 ended.5 ended.6
-              (way_shown d old new desk leads slot.server number service payload ended.0 ended.3 queue entry named was.its ended.4 (subst (λ h. IfSome h (IsTaken d queue t old)) hand taken).last has (ap (λ h. way_of d.setup service payload (hop_in h) old.reader.found) (sym hand) ∙ way)),
+              (way_shown d old new desk leads slot.server number service payload ended.0 ended.3 entry named ended.4 (hand_seen desk was (subst (λ h. IfSome h (IsTaken d queue t old)) hand taken)) has (ap (λ h. way_of d.setup service payload (hop_in h) old.reader.found) (sym hand) ∙ way)),
         );
         to_tell = to;
       }

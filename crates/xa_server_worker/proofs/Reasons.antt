@@ -21,7 +21,7 @@ use Rattle.xa_desk.specs.xa_events.declared.event.Ended.{Ended}
 use Rattle.xa_desk.specs.xa_events.declared.event.Outcome.{Outcome}
 use Rattle.xa_desk.specs.xa_events.declared.event.Outcome.TheVariants.{BadForward}
 use Rattle.xa_desk.specs.xa_events.Calls.{IsShutOut, is_accepted_by}
-use Rattle.xa_desk.specs.xa_events.Homes.{is_own_at, of_worker}
+use Rattle.xa_desk.specs.xa_events.Homes.{is_own_at, is_take_by, of_worker}
 use Rattle.xa_desk.specs.xa_events.Local.{worker_events}
 use Rattle.xa_desk.specs.xa_events.Request.{is_entry_of}
 use Rattle.xa_desk.specs.xa_events.State.{caller_of}
@@ -29,7 +29,8 @@ use Rattle.xa_desk.specs.xa_events.Words.{latest, count}
 use Rattle.xa_desk.specs.xa_board.declared.reader.Reader.{Reader}
 use Rattle.xa_desk.specs.xa_stamp.declared.home.Stamped.{Stamped}
 use Rattle.xa_desk.specs.xa_worker.Finishing.{IsSpent, ForwardEndsOwn}
-use Rattle.xa_desk.specs.xa_worker.Seen.{past_in, IfNew, SawSince}
+use Rattle.xa_desk.specs.xa_worker.Seen.{past_in, IfNew, SawSince, SawInHand}
+use Rattle.xa_desk.proofs.xa_worker.Before.{take_by_worker}
 use Rattle.xa_desk.proofs.xa_worker.Lists.{count_part}
 use Rattle.xa_desk.specs.xa_held.Kept.{Brings}
 use Rattle.xa_desk.specs.xa_queue.declared.entry.Entry.{Entry}
@@ -41,7 +42,7 @@ use Rattle.xa_desk.specs.xa_server.Forwarding.{row_or, way_of}
 use Rattle.xa_desk.specs.declared.domain.Domain.{Domain}
 use Rattle.xa_desk.specs.declared.desk.Desk.{Desk}
 use Rattle.xa_desk.specs.Desks.{GoesOn, IsDesk, Leads}
-use Rattle.xa_desk.specs.Found.{SawItsOwnAt, HasFound, ShowsWhy}
+use Rattle.xa_desk.specs.Found.{SawItsOwnAt, SawInHandAt, HasFound, ShowsWhy}
 use Rattle.xa_desk.specs.Passing.{forwarded_to}
 use Rattle.xa_desk.specs.Whole.{Whole, entries_of}
 use Rattle.xa_desk.proofs.Preparing.{none_passes, weaker_front, listed_shows}
@@ -116,6 +117,16 @@ module _ (d : Domain) (old new : Desk) (is : IsDesk d old) (leads : Leads d old 
       weaker_front _ stamp (λ moment. IfNew d.setup queue P moment × (count p moment ≡ count p past)) (λ moment. IfNew d.setup queue P moment × (count p moment ≡ count p (theirs old.caller.work))) (λ moment both. (both.0, both.1 ∙ same))
       (subst (λ n. SawSince d.setup d.clients (entries_of whole) stamp n queue P past) (sym worker_is) (saw whole on stamp less))
 
+  -- and so what was seen of the server's queue, with its last take
+  hand_theirs : (P : List Event → Type 0) → SawInHandAt d server.0 old P → (whole : Whole) → GoesOn d whole old → (stamp : Stamp) → old.caller.work.stamp.0 < stamp.0 → SawInHand d.setup d.clients (entries_of whole) stamp server.0 P (theirs old.caller.work)
+  hand_theirs P saw whole on stamp less =
+      let past = past_in old.caller.work.own in
+      let queue = queue_of d.setup server.0 in
+      let p = is_take_by server.0 in
+      let same : count p past ≡ count p (theirs old.caller.work) = sym (ap (count p) theirs_are ∙ count_part p (of_worker d.clients (caller_of d.clients server.0)) (take_by_worker d.clients server.0) past) in
+      weaker_front _ stamp (λ moment. IfNew d.setup queue P moment × (count p moment ≡ count p past)) (λ moment. IfNew d.setup queue P moment × (count p moment ≡ count p (theirs old.caller.work))) (λ moment both. (both.0, both.1 ∙ same))
+      (saw whole on stamp less)
+
   abbrev Shown : List ℕ → Data → Ended → Outcome → Type 0
   Shown service payload e outcome = (whole : Whole) → GoesOn d whole old → (stamp : Stamp) → old.caller.work.stamp.0 < stamp.0 → ForwardEndsOwn d.setup d.clients (entries_of whole) stamp service payload e outcome (theirs old.caller.work)
 
@@ -143,9 +154,9 @@ module _ (d : Domain) (old new : Desk) (is : IsDesk d old) (leads : Leads d old 
         inr (has.booted, listed_shows d old.reader.found service old (λ rows. (is_accepted_by d.setup payload rows ≡ false) ⊎ All (P (caller_of d.clients e.server.0)) rows) has (inr (subst (λ n. All (P n) rows) caller_is all)) whole on stamp less)
 
     -- none accepts the data, or the frame or the request decided
-    pub way_shown : (queue : ℕ) (entry : Entry Cargo) (named : ℕ) → queue_of d.setup server.0 ≡ queue → e.request ≡ entry.request → SawItsOwnAt d queue old (λ past. IsSomeAnd (latest (is_entry_of entry.request) past) (Brings entry.request entry.cargo.invocation))
+    pub way_shown : (entry : Entry Cargo) (named : ℕ) → e.request ≡ entry.request → SawInHandAt d server.0 old (λ past. IsSomeAnd (latest (is_entry_of entry.request) past) (Brings entry.request entry.cargo.invocation))
         → (is_name service ≡ true → HasFound d service old.reader.found old) → way_of d.setup service payload entry.cargo.invocation.hop old.reader.found ≡ Err named → Shown service payload e (BadForward named)
-    way_shown queue entry named at request last has way =
+    way_shown entry named request last has way =
         by (is_name service) (is_sound d.setup payload) (nat_lt entry.cargo.invocation.hop 32) refl refl refl way
       where
         found : FoundRows
@@ -170,11 +181,11 @@ module _ (d : Domain) (old new : Desk) (is : IsDesk d old) (leads : Leads d old 
         spent (Some _) many brings = absurd brings
 
         saw_spent : 32 ≤ entry.cargo.invocation.hop → (whole : Whole) → GoesOn d whole old → (stamp : Stamp) → old.caller.work.stamp.0 < stamp.0
-            → SawSince d.setup d.clients (entries_of whole) stamp (caller_of d.clients e.server.0) (queue_of d.setup e.server.0) (λ past. IsSomeAnd (latest (is_entry_of e.request) past) IsSpent) (theirs old.caller.work)
+            → SawInHand d.setup d.clients (entries_of whole) stamp e.server.0 (λ past. IsSomeAnd (latest (is_entry_of e.request) past) IsSpent) (theirs old.caller.work)
         saw_spent many whole on stamp less =
-            let Saw : ℕ → ℕ → RequestId → Type 0 = λ worker place request. SawSince d.setup d.clients (entries_of whole) stamp worker place (λ past. IsSomeAnd (latest (is_entry_of request) past) IsSpent) (theirs old.caller.work) in
-            let here : Saw (caller_of d.clients server.0) queue entry.request = weaker_front _ stamp _ _ (λ past both. (λ new. spent (latest (is_entry_of entry.request) past) many (both.0 new), both.1)) (saw_theirs queue _ last whole on stamp less) in
-            subst (λ n. Saw n (queue_of d.setup e.server.0) e.request) caller_is (subst (λ q. Saw (caller_of d.clients server.0) q e.request) (sym at ∙ ap (λ (s : ServerId). queue_of d.setup s.0) (sym its)) (subst (Saw (caller_of d.clients server.0) queue) (sym request) here))
+            let Saw : ServerId → RequestId → Type 0 = λ s request. SawInHand d.setup d.clients (entries_of whole) stamp s.0 (λ past. IsSomeAnd (latest (is_entry_of request) past) IsSpent) (theirs old.caller.work) in
+            let here : Saw server entry.request = weaker_front _ stamp _ _ (λ past both. (λ new. spent (latest (is_entry_of entry.request) past) many (both.0 new), both.1)) (hand_theirs _ last whole on stamp less) in
+            subst (λ s. Saw s e.request) (sym its) (subst (Saw server) (sym request) here)
 
         by : (name sound few : Bool) → is_name service ≡ name → is_sound d.setup payload ≡ sound → nat_lt entry.cargo.invocation.hop 32 ≡ few
             → (if name && sound && few then row_or found.version (find (λ (r : Row). is_accepted d.setup r.accepts (kind_of payload)) found.rows) else Err 0) ≡ Err named → Shown service payload e (BadForward named)
