@@ -48,7 +48,7 @@ pub mod lock {
 }
 
 pub mod pipe {
-    pub use xa_pipe::{Answered, CutLife, EndedLife, Finish, Forward, Life, Pipes, Return};
+    pub use xa_pipe::{Act, Acted, CutLife, EndedLife, Finish, Forward, Life, Pipes, Return};
 }
 
 pub mod queue {
