@@ -18,7 +18,7 @@ use Rattle.xa_desk.specs.xa_caller.declared.outcomes.Prepared.{Prepared}
 use Rattle.xa_desk.specs.xa_caller.declared.outcomes.Step.{Step}
 use Rattle.xa_desk.specs.xa_caller.declared.outcomes.Stop.{Stop}
 use Rattle.xa_desk.specs.xa_caller.declared.outcomes.Stop.TheVariants as stops
-use Rattle.xa_desk.specs.xa_caller.Caller.{CallerState}
+use Rattle.xa_desk.specs.xa_caller.Caller.{CallerState, room_to_send}
 use Rattle.xa_desk.specs.xa_caller.Changes.{Prepares, Refuses, SetsPriority, StopsAs, StepsAs}
 use Rattle.xa_desk.specs.xa_caller.Unsent.{ChecksAs}
 use Rattle.xa_desk.proofs.xa_caller.Next.{first_found}
@@ -37,11 +37,14 @@ use Rattle.xa_calls.specs.declared.sending.Tried.TheVariants as attempts
 use Rattle.xa_calls.specs.Resting.{SawFull, NotedOn}
 use Rattle.xa_calls.specs.Going.{IsReady, IsWaiting, IsSame, FillsNone, PerformsBy, GoesBy, TriesBy, ToldAs, TriedAs}
 use Rattle.xa_calls.specs.Sending.{IsBy}
-use Rattle.xa_calls.proofs.Resting.{noted_none, noted_trans, noted_weaker, checked_noted, replied_noted, stopped_noted, checked_same, replied_same, board_same, look_grew, look_later, look_earlier, full_later, full_earlier}
+use Rattle.xa_calls.proofs.Resting.{noted_none, noted_trans, noted_weaker, checked_noted, replied_noted, stopped_noted, SameWork, same_work, same_desk, same_by, checked_same, replied_same, board_same, look_grew, look_later, look_earlier, full_later, full_earlier}
 use Rattle.xa_calls.proofs.Seating.{seat_fills, prepared_fills, checks_fills, stopped_fills, looks_fills}
 
 pub same_trans : (a b c : Desk) → IsSame a b → IsSame b c → IsSame a c
-same_trans a b c ab bc = record { id = bc.id ∙ ab.id; clients = bc.clients ∙ ab.clients }
+same_trans a b c ab bc = record { id = bc.id ∙ ab.id; clients = bc.clients ∙ ab.clients; room = λ had. bc.room (ab.room had) }
+
+pub same_self : (desk : Desk) → IsSame desk desk
+same_self desk = record { id = refl; clients = refl; room = λ had. had }
 
 module _ (d : Domain) (number : ℕ) (op : Op) where
   -- a step that left the board alone, and noted nothing that rests on what was seen before
@@ -49,7 +52,7 @@ module _ (d : Domain) (number : ℕ) (op : Op) where
   performs_by old new leads fits same fills board looked = record { leads = leads; fits = fits; same = same; fills = fills; board = board_same old new board; looked = looked }
 
   pub stays_put : (desk : Desk) → IsDesk d desk → PerformsBy d number op desk desk
-  stays_put desk is = performs_by desk desk (same_leads d desk is) (λ ops numbered fits. fits) (record { id = refl; clients = refl }) (λ k. refl) refl
+  stays_put desk is = performs_by desk desk (same_leads d desk is) (λ ops numbered fits. fits) (same_self desk) (λ k. refl) refl
       (noted_none (LookShowed desk desk) (SawFull d desk desk) desk.caller.work.own desk.caller.work.own refl)
 
   pub performs_trans : (a b c : Desk) → PerformsBy d number op a b → PerformsBy d number op b c → PerformsBy d number op a c
@@ -66,12 +69,12 @@ module _ (d : Domain) (number : ℕ) (op : Op) where
 
 -- a call that set the priority of the next request, or came to a halt
 pub set_same : (op : ℕ) (absolute : Bool) (amount : ℤ) (r : Result Stamp Halt) (old new : Desk) → IfOk r (λ stamp. SetsPriority op absolute amount stamp new.caller old.caller) → OnErr r (new ≡ old) → IsSame old new
-set_same op absolute amount (Ok stamp) old new sets kept = record { id = ap (λ (c : CallerState). c.work.id) sets.made; clients = ap (λ (c : CallerState). c.work.clients) sets.made }
-set_same op absolute amount (Err halt) old new sets kept = record { id = ap (λ (desk : Desk). desk.caller.work.id) kept; clients = ap (λ (desk : Desk). desk.caller.work.clients) kept }
+set_same op absolute amount (Ok stamp) old new sets kept = same_by old new _ (ap (λ (c : CallerState). c.work) sets.made) refl refl refl
+set_same op absolute amount (Err halt) old new sets kept = same_by old new _ (ap (λ (desk : Desk). desk.caller.work) kept) refl refl refl
 
 module _ (d : Domain) (ask : Ask) (op : ℕ) where
   pub goes_nowhere : (desk : Desk) → IsDesk d desk → GoesBy d op ask desk desk
-  goes_nowhere desk is = record { leads = same_leads d desk is; fits = λ ops numbered fits. fits; same = record { id = refl; clients = refl }; fills = λ k. refl }
+  goes_nowhere desk is = record { leads = same_leads d desk is; fits = λ ops numbered fits. fits; same = same_self desk; fills = λ k. refl }
 
   pub goes_trans : (a b c : Desk) → GoesBy d op ask a b → GoesBy d op ask b c → GoesBy d op ask a c
   goes_trans a b c ab bc = record {
@@ -152,23 +155,28 @@ module _ (d : Domain) (ask : Ask) (op : ℕ) where
           stamp = let higher = ap (λ (c : CallerState). c.work.stamp.0) sees.1 in omega (arith, higher);
           made = none_made;
         }) op ask;
-        same = record { id = id; clients = clients };
+        same = same_by old new _ (ap (λ (c : CallerState). c.work) sees.1) refl refl refl;
         fills = seat_fills old new (ap (λ (c : CallerState). c.seat) sees.1);
       }
 
+  pub prepared_same : (found : FoundRows) (prepared : Prepared) (old new : Desk) → Prepares d.setup d.cells op ask.payload found prepared new.caller old.caller → IsSame old new
+  prepared_same found prepared old new made = same_desk old new (same_work old.caller.work new.caller.work _ (ap (λ (c : CallerState). c.work) made.made) refl refl (λ had. omega (arith, had)))
+
   pub prepared_on : (found : FoundRows) (prepared : Prepared) (old new : Desk) → Leads d old new → FitsOn d op ask old new → Prepares d.setup d.cells op ask.payload found prepared new.caller old.caller → GoesBy d op ask old new
-  prepared_on found prepared old new leads fits made = record { leads = leads; fits = fits; same = record { id = ap (λ (c : CallerState). c.work.id) made.made; clients = ap (λ (c : CallerState). c.work.clients) made.made }; fills = prepared_fills d.setup op ask.payload found prepared old new made }
+  prepared_on found prepared old new leads fits made = record { leads = leads; fits = fits; same = prepared_same found prepared old new made; fills = prepared_fills d.setup op ask.payload found prepared old new made }
 
-  refused_same : (fault : Fault) (evidence : Evidence) (stamp : Stamp) (old new : CallerState) → Refuses op fault evidence stamp new old → (new.work.id ≡ old.work.id) × (new.work.clients ≡ old.work.clients)
-  refused_same fault evidence stamp old new refuses = (ap (λ (c : CallerState). c.work.id) refuses.made, ap (λ (c : CallerState). c.work.clients) refuses.made)
+  refused_same : (fault : Fault) (evidence : Evidence) (stamp : Stamp) (old new : CallerState) → Refuses op fault evidence stamp new old → SameWork old.work new.work
+  refused_same fault evidence stamp old new refuses = same_work old.work new.work _ (ap (λ (c : CallerState). c.work) refuses.made) refl refl (λ had. had)
 
-  pub stopped_same : (found : FoundRows) (stop : Stop) (old new : CallerState) → StopsAs d.setup op ask.payload found stop new old → (new.work.id ≡ old.work.id) × (new.work.clients ≡ old.work.clients)
+  pub stopped_same : (found : FoundRows) (stop : Stop) (old new : CallerState) → StopsAs d.setup op ask.payload found stop new old → SameWork old.work new.work
   stopped_same found (stops.Refused stamp) old new (inl none) = elim none.1 [ inl rows ↦ refused_same NoEnt (Version found.version) stamp old new rows.1 | inr rows ↦ refused_same IType (Version found.version) stamp old new rows.1 ]
-  stopped_same found (stops.Refused stamp) old new (inr full) = refused_same Limit (Cells old.seat.count) stamp (record old { work = record old.work { room = max old.work.room 1 }; seat = full.1.seat }) new full.1.refuses
-  stopped_same found (stops.Halt halt) old new halts = (ap (λ (c : CallerState). c.work.id) halts.1, ap (λ (c : CallerState). c.work.clients) halts.1)
+  stopped_same found (stops.Refused stamp) old new (inr full) =
+      let same = refused_same Limit (Cells old.seat.count) stamp (record old { work = record old.work { room = max old.work.room room_to_send }; seat = full.1.seat }) new full.1.refuses in
+      (same.0, same.1, λ had. same.2 (omega (arith, had)))
+  stopped_same found (stops.Halt halt) old new halts = same_work old.work new.work _ (ap (λ (c : CallerState). c.work) halts.1) refl refl (λ had. had)
 
   pub stopped_on : (found : FoundRows) (stop : Stop) (old new : Desk) → Leads d old new → FitsOn d op ask old new → StopsAs d.setup op ask.payload found stop new.caller old.caller → GoesBy d op ask old new
-  stopped_on found stop old new leads fits stopped = let same = stopped_same found stop old.caller new.caller stopped in record { leads = leads; fits = fits; same = record { id = same.0; clients = same.1 }; fills = stopped_fills d.setup op ask.payload found stop old new stopped }
+  stopped_on found stop old new leads fits stopped = record { leads = leads; fits = fits; same = same_desk old new (stopped_same found stop old.caller new.caller stopped); fills = stopped_fills d.setup op ask.payload found stop old new stopped }
 
 -- the request is by the first row that was found
 pub first_by : (d : Domain) (service : List ℕ) (payload : Data) (op : ℕ) (prepared : Prepared) (old new : Desk) → new ≡ record old { caller = new.caller } → HasFound d service old.reader.found old

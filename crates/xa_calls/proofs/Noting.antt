@@ -1,7 +1,8 @@
 -- What one event of a call leaves, and what its caller is told.
-use Rattle.std.proofs.Common.{◌≡◌, ℕ, ℤ, ◌<◌, ◌==◌, ◌&&◌, ◌-◌, Bool, true, false, List, [], ◌∷◌, ◌++◌, Option, Some, Result, Ok, Err, max, append_assoc, inl, inr, refl, sym, ◌∙◌, ap, subst, eq-eqb, eqb-true}
+use Rattle.std.proofs.Common.{◌≡◌, ℕ, ℤ, ◌<◌, ◌==◌, ◌&&◌, ◌-◌, Bool, true, false, List, [], ◌∷◌, ◌++◌, Option, Some, None, Result, Ok, Err, max, append_assoc, inl, inr, refl, sym, ◌∙◌, ap, subst, eq-eqb, eqb-true}
 use Rattle.std.specs.Prelude.{nat_lt, if◌then◌else◌, OnOk, IfErr}
-use Rattle.std.proofs.lemmas.Bool.{and_parts, and_from, lt-ltb}
+use Rattle.std.proofs.lemmas.List.Elements.{All-nil, All-cons}
+use Rattle.std.proofs.lemmas.Bool.{cases_Bool, and_parts, and_from, lt-ltb}
 use Rattle.xa_desk.specs.xa_types.declared.data.Data.{Data}
 use Rattle.xa_desk.specs.xa_types.declared.data.Kind.{Kind}
 use Rattle.xa_desk.specs.xa_types.declared.fault.Fault.{Fault}
@@ -17,7 +18,7 @@ use Rattle.xa_desk.specs.xa_events.declared.event.Event.TheVariants.{Accept, Ans
 use Rattle.xa_desk.specs.xa_events.declared.event.Evidence.{Evidence}
 use Rattle.xa_desk.specs.xa_events.declared.event.Evidence.TheVariants.{Argument, Version, Cells, AllDown, Queue}
 use Rattle.xa_desk.specs.xa_events.Answers.{answer_to}
-use Rattle.xa_desk.specs.xa_events.Caller.{is_serving, is_call_of, op_in, last_op, version_in}
+use Rattle.xa_desk.specs.xa_events.Caller.{is_serving, is_call_of, op_in, last_op, version_in, tick_of, tick_in}
 use Rattle.xa_desk.specs.xa_events.Homes.{worker_of, home_of, same_home}
 use Rattle.xa_desk.specs.xa_events.Homes.Home.{CallerHome}
 use Rattle.xa_desk.specs.xa_events.Said.{is_op, reply_at, reply_shown_by, refusal_reply}
@@ -41,7 +42,8 @@ use Rattle.xa_desk.specs.xa_caller.declared.phase.Draft.{Draft}
 use Rattle.xa_desk.specs.xa_caller.declared.phase.Phase.{Phase}
 use Rattle.xa_desk.specs.xa_caller.declared.phase.Phase.TheVariants.{Idle, Prepared}
 use Rattle.xa_desk.specs.xa_caller.Phases.{least_by}
-use Rattle.xa_desk.specs.xa_caller.Caller.{CallerState, MayCall, IsSound}
+use Rattle.xa_desk.specs.xa_pipe.Following.{is_accept}
+use Rattle.xa_desk.specs.xa_caller.Caller.{CallerState, MayCall, IsSound, room_to_send}
 use Rattle.xa_desk.specs.xa_caller.Changes.{Notes, refused, Refuses, SetsPriority, StopsAs, Sends, StepsAs}
 use Rattle.xa_desk.specs.xa_caller.Unsent.{ChecksAs, UnsentAs, EndsAs, refused_for, other_step}
 use Rattle.xa_desk.specs.declared.desk.Desk.{Desk}
@@ -52,7 +54,7 @@ use Rattle.xa_calls.specs.declared.sending.Tried.TheVariants as attempts
 use Rattle.xa_calls.specs.declared.telling.Told.{Told}
 use Rattle.xa_calls.specs.Going.{IsSame, tried_by, refused_by, told_by as looked_by}
 use Rattle.xa_calls.specs.Sending.{IsItsOwn}
-use Rattle.xa_calls.specs.Telling.{is_accept, IsQuiet, NotesOne, Accepts, Closes, NotesCall, TriedNotes, LookNotes, IsNoWant, StoppedIn, told_of, Says, IsTold}
+use Rattle.xa_calls.specs.Telling.{IsQuiet, NotesOne, Accepts, Closes, NotesCall, TriedNotes, LookNotes, IsNoWant, StoppedIn, told_of, Says, IsTold}
 
 -- ---- an event of a call
 
@@ -78,11 +80,15 @@ doing_still caller n server e past is = rw (moves_none caller n server e is) ref
 
 -- ---- the worker
 
+-- the desk is of one worker with that one
+abbrev IsOf : Desk → Desk → Type 0
+IsOf old new = (new.caller.work.id ≡ old.caller.work.id) × (new.caller.work.clients ≡ old.caller.work.clients)
+
 -- it noted that event more
-theirs_one : (n : ℕ) (P : Event → List Event → Type 0) (old new : Desk) → IsSame old new → (one : NotesOne n P old new) → theirs new.caller.work ≡ one.noted.event ∷ theirs old.caller.work
+theirs_one : (n : ℕ) (P : Event → List Event → Type 0) (old new : Desk) → IsOf old new → (one : NotesOne n P old new) → theirs new.caller.work ≡ one.noted.event ∷ theirs old.caller.work
 theirs_one n P old new same one =
     let w = old.caller.work in
-    same_theirs new.caller.work (noted one.noted w) same.clients (ap (λ (i : CallerId). i.0) same.id) one.own
+    same_theirs new.caller.work (noted one.noted w) same.1 (ap (λ (i : CallerId). i.0) same.0) one.own
     ∙ theirs-more w one.noted (its_worker w.clients w.id.0 n one.noted.event one.its)
   where
     same_theirs : (v w : WorkState) → v.clients ≡ w.clients → v.id.0 ≡ w.id.0 → v.own ≡ w.own → theirs v ≡ theirs w
@@ -106,7 +112,7 @@ may_still old new same quiet may = serving_same old.caller new.caller same.clien
 
 pub may_on : (n : ℕ) (P : Event → List Event → Type 0) (old new : Desk) → IsSame old new → NotesOne n P old new → MayCall old.caller → MayCall new.caller
 may_on n P old new same one may =
-    serving_same old.caller new.caller same.clients same.id (λ server. ap (doing server) (theirs_one n P old new same one) ∙ doing_still old.caller.work.id.0 n server one.noted.event (theirs old.caller.work) one.its) may
+    serving_same old.caller new.caller same.clients same.id (λ server. ap (doing server) (theirs_one n P old new (same.id, same.clients) one) ∙ doing_still old.caller.work.id.0 n server one.noted.event (theirs old.caller.work) one.its) may
 
 -- ---- what is told
 
@@ -122,7 +128,7 @@ descriptor_none : (last op number : ℕ) → last ≡ op → (if last == op then
 descriptor_none last op number is = rw (eq-eqb last op is) refl
 
 says_by : (caller n : ℕ) (e : Event) (past all : List Event) → is_op caller n e ≡ true → Closes e past → all ≡ e ∷ past → Says (told_of e) n caller all
-says_by caller n (Refuse r) past all is closes whole = ap (λ es. reply_at es caller n) whole ∙ newest_told caller n (Refuse r) past is ∙ closes
+says_by caller n (Refuse r) past all is closes whole = ap (λ es. reply_at es caller n) whole ∙ newest_told caller n (Refuse r) past is ∙ closes.0
 says_by caller n (Priority p) past all is closes whole = ap (λ es. reply_at es caller n) whole ∙ newest_told caller n (Priority p) past is
 says_by caller n (Answer a) past all is closes whole =
     (a, past, whole, ap (λ es. reply_at es caller n) whole ∙ newest_told caller n (Answer a) past is ∙ ap (λ (d : ℕ). replies.Answered d a.answer) (descriptor_none (last_op a.by.0 past) a.op a.request.number closes))
@@ -144,32 +150,49 @@ closes_here setup clients caller n x past is closes = at_its (its_worker clients
 abbrev pub TellsNewest : Told → Desk → Type 0
 TellsNewest told desk = (older : List Stamped) (x : Stamped) → desk.caller.work.own ≡ older ++ x ∷ [] → stands_at desk.caller.work.setup desk.caller.work.clients (CallerHome desk.caller.work.id.0) x ≡ true → told ≡ told_of x.event
 
-says_told : (told : Told) (n : ℕ) (old new : Desk) → IsSame old new → TellsNewest told new → NotesOne n Closes old new → Says told n new.caller.work.id.0 (theirs new.caller.work)
+says_told : (told : Told) (n : ℕ) (old new : Desk) → IsOf old new → TellsNewest told new → NotesOne n Closes old new → Says told n new.caller.work.id.0 (theirs new.caller.work)
 says_told told n old new same tells one =
-    let id = ap (λ (i : CallerId). i.0) same.id in
+    let id = ap (λ (i : CallerId). i.0) same.0 in
     let its = subst (λ (k : ℕ). is_op k n one.noted.event ≡ true) (sym id) one.its in
     subst (λ (t : Told). Says t n new.caller.work.id.0 (theirs new.caller.work)) (sym (tells old.caller.work.own one.noted one.own (closes_here new.caller.work.setup new.caller.work.clients new.caller.work.id.0 n one.noted (theirs old.caller.work) its one.shows)))
     (says_by new.caller.work.id.0 n one.noted.event (theirs old.caller.work) (theirs new.caller.work) its one.shows (theirs_one n Closes old new same one))
 
+-- no such event names a tick
+abbrev IsTickless : Desk → Event → Type 0
+IsTickless desk e = tick_in desk.caller.work.clients desk.caller.work.id.0 e ≡ None
+
+closes_tickless : (clients caller : ℕ) (e : Event) (past : List Event) → Closes e past → tick_in clients caller e ≡ None
+closes_tickless clients caller (Refuse r) past closes = elim (cases_Bool (r.by.0 == caller)) [ | inl its ↦ rw its closes.1 | inr another ↦ rw another refl ]
+closes_tickless clients caller (Priority p) past closes = refl
+closes_tickless clients caller (Answer a) past closes = refl
+closes_tickless clients caller e past closes = absurd closes
+
+accepts_tickless : (clients caller : ℕ) (e : Event) → is_accept e ≡ true → tick_in clients caller e ≡ None
+accepts_tickless clients caller (Accept a) is = refl
+accepts_tickless clients caller e is = absurd (cc is)
+
 pub told_call : (told : Told) (n : ℕ) (old new : Desk) → IsSame old new → TellsNewest told new → NotesCall n old new → IsTold told n old new
 told_call told n old new same tells (inl one) = record {
   more = one.noted.event ∷ [];
-  noted = theirs_one n Closes old new same one;
+  noted = theirs_one n Closes old new (same.id, same.clients) one;
   added = one.noted ∷ [];
   own = one.own;
   events = refl;
   call = one.its;
-  says = says_told told n old new same tells one;
+  ticks = All-cons (IsTickless old) one.noted.event [] (closes_tickless old.caller.work.clients old.caller.work.id.0 one.noted.event (theirs old.caller.work) one.shows) (All-nil (IsTickless old));
+  says = says_told told n old new (same.id, same.clients) tells one;
 }
 told_call told n old new same tells (inr (mid, is, first, one)) =
-    let on : IsSame mid new = record { id = same.id ∙ sym is.id; clients = same.clients ∙ sym is.clients } in
+    let on : IsOf mid new = (same.id ∙ sym is.id, same.clients ∙ sym is.clients) in
     record {
       more = one.noted.event ∷ first.noted.event ∷ [];
-      noted = theirs_one n Closes mid new on one ∙ ap (λ es. one.noted.event ∷ es) (theirs_one n Accepts old mid is first);
+      noted = theirs_one n Closes mid new on one ∙ ap (λ es. one.noted.event ∷ es) (theirs_one n Accepts old mid (is.id, is.clients) first);
       added = first.noted ∷ one.noted ∷ [];
       own = one.own ∙ ap (λ (xs : List Stamped). xs ++ one.noted ∷ []) first.own ∙ append_assoc old.caller.work.own (first.noted ∷ []) (one.noted ∷ []);
       events = refl;
       call = (subst (λ (i : CallerId). is_op i.0 n one.noted.event ≡ true) is.id one.its, closes_no_accept one.noted.event (theirs mid.caller.work) one.shows, first.its, first.shows);
+      ticks = All-cons (IsTickless old) one.noted.event (first.noted.event ∷ []) (closes_tickless old.caller.work.clients old.caller.work.id.0 one.noted.event (theirs mid.caller.work) one.shows)
+          (All-cons (IsTickless old) first.noted.event [] (accepts_tickless old.caller.work.clients old.caller.work.id.0 first.noted.event first.shows) (All-nil (IsTickless old)));
       says = says_told told n mid new on tells one;
     }
 
@@ -184,19 +207,19 @@ notes_one n P stamp event left old new notes own its shows =
     let x : Stamped = record { stamp = stamp; event = event } in
     record { noted = x; own = ap (λ (c : CallerState). c.work.own) notes.made ∙ ap (λ (xs : List Stamped). xs ++ x ∷ []) own; its = its; shows = shows }
 
-refuses_one : (op : ℕ) (fault : Fault) (evidence : Evidence) (stamp : Stamp) (left : CallerState) (old new : Desk) → 0 < op → left.work.own ≡ old.caller.work.own → left.work.id ≡ old.caller.work.id → refusal_reply fault evidence ≡ replies.Fault fault
+refuses_one : (op : ℕ) (fault : Fault) (evidence : Evidence) (stamp : Stamp) (left : CallerState) (old new : Desk) → 0 < op → left.work.own ≡ old.caller.work.own → left.work.id ≡ old.caller.work.id → (refusal_reply fault evidence ≡ replies.Fault fault) × (tick_of evidence ≡ None)
     → Refuses op fault evidence stamp new.caller left → NotesOne op Closes old new
 refuses_one op fault evidence stamp left old new above own id reply refuses =
     notes_one op Closes stamp (refused op fault evidence left) (record left { op = op; least = least_by (version_in evidence) left.least }) old new refuses own (its_op left.work.id.0 old.caller.work.id.0 op (ap (λ (i : CallerId). i.0) id) above) reply
 
 pub checks_one : (op : ℕ) (stamp : Stamp) (old new : Desk) → 0 < op → ChecksAs op (stops.Refused stamp) new.caller old.caller → NotesOne op Closes old new
-checks_one op stamp old new above checks = refuses_one op Inval Argument stamp old.caller old new above refl refl refl checks
+checks_one op stamp old new above checks = refuses_one op Inval Argument stamp old.caller old new above refl refl (refl, refl) checks
 
 pub stops_one : (setup : Setup) (op : ℕ) (payload : Data) (found : FoundRows) (stamp : Stamp) (old new : Desk) → 0 < op → StopsAs setup op payload found (stops.Refused stamp) new.caller old.caller → NotesOne op Closes old new
-stops_one setup op payload found stamp old new above (inl (none, inl (empty, refuses))) = refuses_one op NoEnt (Version found.version) stamp old.caller old new above refl refl refl refuses
-stops_one setup op payload found stamp old new above (inl (none, inr (some, refuses))) = refuses_one op IType (Version found.version) stamp old.caller old new above refl refl refl refuses
+stops_one setup op payload found stamp old new above (inl (none, inl (empty, refuses))) = refuses_one op NoEnt (Version found.version) stamp old.caller old new above refl refl (refl, refl) refuses
+stops_one setup op payload found stamp old new above (inl (none, inr (some, refuses))) = refuses_one op IType (Version found.version) stamp old.caller old new above refl refl (refl, refl) refuses
 stops_one setup op payload found stamp old new above (inr (some, limits)) =
-    refuses_one op Limit (Cells old.caller.seat.count) stamp (record old.caller { work = record old.caller.work { room = max old.caller.work.room 1 }; seat = limits.seat }) old new above refl refl refl limits.refuses
+    refuses_one op Limit (Cells old.caller.seat.count) stamp (record old.caller { work = record old.caller.work { room = max old.caller.work.room room_to_send }; seat = limits.seat }) old new above refl refl (refl, refl) limits.refuses
 
 -- what stops a call leaves
 pub stops_notes : (setup : Setup) (op : ℕ) (payload : Data) (found : FoundRows) (stop : Stop) (old new : Desk) → 0 < op → old.caller.phase ≡ Idle → StopsAs setup op payload found stop new.caller old.caller → TriedNotes op (refused_by stop) old new
@@ -207,12 +230,12 @@ stops_notes setup op payload found (stops.Halt halt) old new above idle is = (ap
 unsent_at : (op : ℕ) (why : Why) (no_block : Bool) (step : Step) (draft : Draft) (seat : Seat Filling) (old new : Desk) → 0 < op → draft.op ≡ op
     → EndsAs draft.op (refused_for draft why no_block) (other_step why) step new.caller (record old.caller { seat = seat; phase = Idle }) → TriedNotes op (tried_by step) old new
 unsent_at op reasons.AllShut no_block (steps.Told stamp) draft seat old new above turn ends =
-    refuses_one op System (AllDown draft.version) stamp (record old.caller { seat = seat; phase = Idle }) old new above refl refl refl (subst (λ (n : ℕ). Refuses n System (AllDown draft.version) stamp new.caller (record old.caller { seat = seat; phase = Idle })) turn ends)
+    refuses_one op System (AllDown draft.version) stamp (record old.caller { seat = seat; phase = Idle }) old new above refl refl (refl, refl) (subst (λ (n : ℕ). Refuses n System (AllDown draft.version) stamp new.caller (record old.caller { seat = seat; phase = Idle })) turn ends)
 unsent_at op reasons.AllShut no_block (steps.Halt halt) draft seat old new above turn ends = (ap (λ (c : CallerState). c.work.own) ends.1, ap (λ (c : CallerState). c.phase) ends.1)
 unsent_at op reasons.AllShut no_block steps.Wait draft seat old new above turn ends = absurd ends
 unsent_at op reasons.AllShut no_block steps.Halted draft seat old new above turn ends = absurd ends
 unsent_at op (reasons.Full queue n) true (steps.Told stamp) draft seat old new above turn ends =
-    refuses_one op Block (Queue queue n) stamp (record old.caller { seat = seat; phase = Idle }) old new above refl refl refl (subst (λ (n' : ℕ). Refuses n' Block (Queue queue n) stamp new.caller (record old.caller { seat = seat; phase = Idle })) turn ends)
+    refuses_one op Block (Queue queue n) stamp (record old.caller { seat = seat; phase = Idle }) old new above refl refl (refl, refl) (subst (λ (n' : ℕ). Refuses n' Block (Queue queue n) stamp new.caller (record old.caller { seat = seat; phase = Idle })) turn ends)
 unsent_at op (reasons.Full queue n) true (steps.Halt halt) draft seat old new above turn ends = (ap (λ (c : CallerState). c.work.own) ends.1, ap (λ (c : CallerState). c.phase) ends.1)
 unsent_at op (reasons.Full queue n) true steps.Wait draft seat old new above turn ends = absurd ends
 unsent_at op (reasons.Full queue n) true steps.Halted draft seat old new above turn ends = absurd ends

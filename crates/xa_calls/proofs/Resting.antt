@@ -1,5 +1,5 @@
 -- What a client's calls noted rests on looks.
-use Rattle.std.proofs.Common.{◌≡◌, ℕ, ℤ, Bool, true, false, max, List, [], ◌∷◌, ◌++◌, append-nil, append_assoc, Option, Some, None, Result, Ok, Err, inl, inr, refl, sym, ◌∙◌, ap, subst}
+use Rattle.std.proofs.Common.{◌≡◌, ℕ, ℤ, ◌≤◌, Bool, true, false, max, List, [], ◌∷◌, ◌++◌, append-nil, append_assoc, Option, Some, None, Result, Ok, Err, inl, inr, refl, sym, ◌∙◌, ap, subst, arith}
 use Rattle.std.specs.Prelude.{IfSome, IfOk, OnErr}
 use Rattle.std.proofs.lemmas.List.Elements.{All-nil, All-cons, All-append, All-weaker}
 use Rattle.xa_desk.specs.xa_types.declared.data.Data.{Data}
@@ -29,7 +29,8 @@ use Rattle.xa_desk.specs.xa_caller.declared.outcomes.Stop.{Stop}
 use Rattle.xa_desk.specs.xa_caller.declared.outcomes.Stop.TheVariants as stops
 use Rattle.xa_desk.specs.xa_caller.declared.outcomes.Why.{Why}
 use Rattle.xa_desk.specs.xa_caller.declared.outcomes.Why.TheVariants as reasons
-use Rattle.xa_desk.specs.xa_caller.Caller.{CallerState}
+use Rattle.xa_desk.specs.xa_worker.Work.{WorkState}
+use Rattle.xa_desk.specs.xa_caller.Caller.{CallerState, room_to_send}
 use Rattle.xa_desk.specs.xa_caller.Changes.{Refuses, SetsPriority, StopsAs, StepsAs, refused}
 use Rattle.xa_desk.specs.xa_caller.Unsent.{ChecksAs, EndsAs, refused_for, other_step}
 use Rattle.xa_desk.specs.declared.domain.Domain.{Domain}
@@ -100,7 +101,7 @@ stopped_noted Full setup op payload found (stops.Refused stamp) old new (inl non
   | inl rows ↦ refused_noted (λ version. version ≡ found.version) Full op NoEnt (Version found.version) stamp old new refl tt rows.1
   | inr rows ↦ refused_noted (λ version. version ≡ found.version) Full op IType (Version found.version) stamp old new refl tt rows.1
 ]
-stopped_noted Full setup op payload found (stops.Refused stamp) old new (inr full) = refused_noted (λ version. version ≡ found.version) Full op Limit (Cells old.seat.count) stamp (record old { work = record old.work { room = max old.work.room 1 }; seat = full.1.seat }) new tt tt full.1.refuses
+stopped_noted Full setup op payload found (stops.Refused stamp) old new (inr full) = refused_noted (λ version. version ≡ found.version) Full op Limit (Cells old.seat.count) stamp (record old { work = record old.work { room = max old.work.room room_to_send }; seat = full.1.seat }) new tt tt full.1.refuses
 stopped_noted Full setup op payload found (stops.Halt halt) old new halts = noted_none (λ version. version ≡ found.version) Full old.work.own new.work.own (ap (λ (c : CallerState). c.work.own) halts.1)
 
 -- and of one that no queue took, for that reason
@@ -119,15 +120,30 @@ unsent_noted draft (reasons.Halt halt) no_block step new left ends = noted_none 
 
 -- ---- the same worker
 
+-- it is the same worker's work, with that room still
+abbrev pub SameWork : WorkState → WorkState → Type 0
+SameWork old new = (new.id ≡ old.id) × (new.clients ≡ old.clients) × (2 ≤ old.room → 2 ≤ new.room)
+
+-- where it became this
+pub same_work : (old new left : WorkState) → new ≡ left → left.id ≡ old.id → left.clients ≡ old.clients → (2 ≤ old.room → 2 ≤ left.room) → SameWork old new
+same_work old new left is id clients room = subst (SameWork old) (sym is) (id, clients, room)
+
+pub same_desk : (old new : Desk) → SameWork old.caller.work new.caller.work → IsSame old new
+same_desk old new same = record { id = same.0; clients = same.1; room = same.2 }
+
+-- the work is as it was, but for what was noted and seen
+pub same_by : (old new : Desk) (left : WorkState) → new.caller.work ≡ left → left.id ≡ old.caller.work.id → left.clients ≡ old.caller.work.clients → left.room ≡ old.caller.work.room → IsSame old new
+same_by old new left is id clients room = same_desk old new (same_work old.caller.work new.caller.work left is id clients (λ had. omega (arith, had, room)))
+
 pub checked_same : (op : ℕ) (stop : Stop) (old new : Desk) → ChecksAs op stop new.caller old.caller → IsSame old new
-checked_same op (stops.Refused stamp) old new refuses = record { id = ap (λ (c : CallerState). c.work.id) refuses.made; clients = ap (λ (c : CallerState). c.work.clients) refuses.made }
-checked_same op (stops.Halt halt) old new halts = record { id = ap (λ (c : CallerState). c.work.id) halts.1; clients = ap (λ (c : CallerState). c.work.clients) halts.1 }
+checked_same op (stops.Refused stamp) old new refuses = same_by old new _ (ap (λ (c : CallerState). c.work) refuses.made) refl refl refl
+checked_same op (stops.Halt halt) old new halts = same_by old new _ (ap (λ (c : CallerState). c.work) halts.1) refl refl refl
 
 pub replied_same : (expect : Option Kind) (step : Step) (old new : Desk) → StepsAs expect step new.caller old.caller → IsSame old new
-replied_same expect (steps.Told stamp) old new is = record { id = ap (λ (c : CallerState). c.work.id) is.noted.made; clients = ap (λ (c : CallerState). c.work.clients) is.noted.made }
-replied_same expect steps.Wait old new is = record { id = ap (λ (c : CallerState). c.work.id) is.3; clients = ap (λ (c : CallerState). c.work.clients) is.3 }
-replied_same expect (steps.Halt halt) old new is = record { id = ap (λ (c : CallerState). c.work.id) is.made; clients = ap (λ (c : CallerState). c.work.clients) is.made }
-replied_same expect steps.Halted old new is = record { id = ap (λ (c : CallerState). c.work.id) is.made; clients = ap (λ (c : CallerState). c.work.clients) is.made }
+replied_same expect (steps.Told stamp) old new is = let room = is.room in same_desk old new (same_work old.caller.work new.caller.work _ (ap (λ (c : CallerState). c.work) is.noted.made) refl refl (λ had. omega (arith, room)))
+replied_same expect steps.Wait old new is = same_by old new _ (ap (λ (c : CallerState). c.work) is.3) refl refl refl
+replied_same expect (steps.Halt halt) old new is = same_by old new _ (ap (λ (c : CallerState). c.work) is.made) refl refl refl
+replied_same expect steps.Halted old new is = same_by old new _ (ap (λ (c : CallerState). c.work) is.made) refl refl refl
 
 -- a look that told nothing found the cell pending
 pub pending : (expect : Option Kind) (step : Step) (old new : Desk) → StepsAs expect step new.caller old.caller → new ≡ record old { caller = new.caller } → told_by step ≡ Ok false → FoundPending old new

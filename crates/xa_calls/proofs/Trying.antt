@@ -53,23 +53,22 @@ use Rattle.xa_calls.specs.Going.{IsSame, GoesBy, TriesBy}
 use Rattle.xa_calls.specs.Sending.{IsBy, IsItsOwn, IsOn, IsTried, NoneTook, full_by, why_of}
 use Rattle.xa_calls.specs.Telling.{NotesOne, Accepts, TriedNotes}
 use Rattle.xa_calls.proofs.Going.{goes_trans, sees_on}
-use Rattle.xa_calls.proofs.Resting.{noted_one, noted_weaker, unsent_noted}
+use Rattle.xa_calls.proofs.Resting.{noted_one, noted_weaker, unsent_noted, SameWork, same_work, same_desk, same_by}
 use Rattle.xa_calls.proofs.Seating.{seat_fills}
 use Rattle.xa_calls.proofs.Noting.{may_still, quiet_one, quiet_tried, sends_one}
 
 -- ---- a request that no queue took
 
-ends_same : (op : ℕ) (refused : Option (Fault × Evidence)) (other step : Step) (new left : CallerState) → EndsAs op refused other step new left → (new.work.id ≡ left.work.id) × (new.work.clients ≡ left.work.clients)
-ends_same op (Some (fault, evidence)) other (steps.Told stamp) new left ends = (ap (λ (c : CallerState). c.work.id) ends.made, ap (λ (c : CallerState). c.work.clients) ends.made)
-ends_same op (Some (fault, evidence)) other (steps.Halt halt) new left ends = (ap (λ (c : CallerState). c.work.id) ends.1, ap (λ (c : CallerState). c.work.clients) ends.1)
+ends_same : (op : ℕ) (refused : Option (Fault × Evidence)) (other step : Step) (new left : CallerState) → EndsAs op refused other step new left → SameWork left.work new.work
+ends_same op (Some (fault, evidence)) other (steps.Told stamp) new left ends = same_work left.work new.work _ (ap (λ (c : CallerState). c.work) ends.made) refl refl (λ had. had)
+ends_same op (Some (fault, evidence)) other (steps.Halt halt) new left ends = same_work left.work new.work _ (ap (λ (c : CallerState). c.work) ends.1) refl refl (λ had. had)
 ends_same op (Some (fault, evidence)) other steps.Wait new left ends = absurd ends
 ends_same op (Some (fault, evidence)) other steps.Halted new left ends = absurd ends
-ends_same op None other step new left ends = (ap (λ (c : CallerState). c.work.id) ends.1, ap (λ (c : CallerState). c.work.clients) ends.1)
+ends_same op None other step new left ends = same_work left.work new.work _ (ap (λ (c : CallerState). c.work) ends.1) refl refl (λ had. had)
 
 pub unsent_same : (cell : ℕ) (why : Why) (no_block : Bool) (step : Step) (old new : Desk) → UnsentAs cell why no_block step new.caller old.caller → IsSame old new
 unsent_same cell why no_block step old new unsent =
-    let same = ends_same unsent.draft.op (refused_for unsent.draft why no_block) (other_step why) step new.caller _ unsent.ends in
-    record { id = same.0; clients = same.1 }
+    same_desk old new (ends_same unsent.draft.op (refused_for unsent.draft why no_block) (other_step why) step new.caller _ unsent.ends)
 
 abbrev held : Option (QueueId × ℕ) → Result (Option (QueueId × ℕ)) Halt → Option (QueueId × ℕ)
 held default (Ok full) = full
@@ -92,7 +91,7 @@ module _ (d : Domain) (ask : Ask) (first : Desk) where
   sends_on desk new stamp on leads fits sends = ends_on desk new on (record {
     leads = leads;
     fits = fits;
-    same = record { id = ap (λ (c : CallerState). c.work.id) sends.made; clients = ap (λ (c : CallerState). c.work.clients) sends.made };
+    same = same_by desk new _ (ap (λ (c : CallerState). c.work) sends.made) refl refl refl;
     fills = seat_fills desk new (ap (λ (c : CallerState). c.seat) sends.made);
   })
 
@@ -159,9 +158,9 @@ aimed_its d found payload caller rows attempt entry one event at old new is aime
     requester default phase = default
 
 aimed_still : (entry : Entry Cargo) (rows : List Row) (attempt : ℕ) (aimed : Aimed) (old new : Desk) → AimsAs entry rows attempt aimed new.caller old.caller → IsStill old new
-aimed_still entry rows attempt (aims.At one event) old new is = let made = is.2.made in record { same = record { id = ap (λ (c : CallerState). c.work.id) made; clients = ap (λ (c : CallerState). c.work.clients) made }; op = ap (λ (c : CallerState). c.op) made; own = ap (λ (c : CallerState). c.work.own) made; seat = ap (λ (c : CallerState). c.seat) made }
-aimed_still entry rows attempt (aims.Past back) old new is = let made = is.2 in record { same = record { id = ap (λ (c : CallerState). c.work.id) made; clients = ap (λ (c : CallerState). c.work.clients) made }; op = ap (λ (c : CallerState). c.op) made; own = ap (λ (c : CallerState). c.work.own) made; seat = ap (λ (c : CallerState). c.seat) made }
-aimed_still entry rows attempt (aims.NoMemory back) old new is = let made = is.1 in record { same = record { id = ap (λ (c : CallerState). c.work.id) made; clients = ap (λ (c : CallerState). c.work.clients) made }; op = ap (λ (c : CallerState). c.op) made; own = ap (λ (c : CallerState). c.work.own) made; seat = ap (λ (c : CallerState). c.seat) made }
+aimed_still entry rows attempt (aims.At one event) old new is = let made = is.2.made in record { same = same_by old new _ (ap (λ (c : CallerState). c.work) made) refl refl refl; op = ap (λ (c : CallerState). c.op) made; own = ap (λ (c : CallerState). c.work.own) made; seat = ap (λ (c : CallerState). c.seat) made }
+aimed_still entry rows attempt (aims.Past back) old new is = let made = is.2 in record { same = same_by old new _ (ap (λ (c : CallerState). c.work) made) refl refl refl; op = ap (λ (c : CallerState). c.op) made; own = ap (λ (c : CallerState). c.work.own) made; seat = ap (λ (c : CallerState). c.seat) made }
+aimed_still entry rows attempt (aims.NoMemory back) old new is = let made = is.1 in record { same = same_by old new _ (ap (λ (c : CallerState). c.work) made) refl refl refl; op = ap (λ (c : CallerState). c.op) made; own = ap (λ (c : CallerState). c.work.own) made; seat = ap (λ (c : CallerState). c.seat) made }
 
 -- ---- what was seen of the queues
 
@@ -258,7 +257,7 @@ module _ (d : Domain) (ask : Ask) (old new : Desk) (leads : Leads d old new) whe
 
   module _ (sees : Sees old.caller new.caller) (reader : new.reader ≡ old.reader) where
     seen_still : IsStill old new
-    seen_still = record { same = record { id = ap (λ (c : CallerState). c.work.id) sees.1; clients = ap (λ (c : CallerState). c.work.clients) sees.1 }; op = ap (λ (c : CallerState). c.op) sees.1; own = ap (λ (c : CallerState). c.work.own) sees.1; seat = ap (λ (c : CallerState). c.seat) sees.1 }
+    seen_still = record { same = same_by old new _ (ap (λ (c : CallerState). c.work) sees.1) refl refl refl; op = ap (λ (c : CallerState). c.op) sees.1; own = ap (λ (c : CallerState). c.work.own) sees.1; seat = ap (λ (c : CallerState). c.seat) sees.1 }
 
     pub found_back : new.board ≡ old.board → HasFound d ask.service old.reader.found old → HasFound d ask.service new.reader.found new
     found_back board has =

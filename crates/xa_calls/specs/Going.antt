@@ -1,5 +1,5 @@
 -- What a caller's calls leave at its desk (this project's own).
-use Rattle.std.specs.Prelude.{◌≡◌, ℕ, ◌+◌, Bool, true, false, Result, Ok, Err}
+use Rattle.std.specs.Prelude.{◌≡◌, ℕ, ◌+◌, ◌≤◌, Bool, true, false, Result, Ok, Err}
 use Rattle.xa_desk.specs.xa_types.declared.call.Ask.{Ask}
 use Rattle.xa_desk.specs.xa_types.declared.call.Op.{Op}
 use Rattle.xa_desk.specs.xa_types.declared.call.Op.TheVariants.{Call, Priority}
@@ -51,10 +51,11 @@ IsStopped desk stopped = IsOut desk × IsStopAt desk stopped
 
 -- ---- how it goes on
 
--- the desk is the same worker's
+-- the desk is the same worker's, with room for the two events that end a server's life, where it had that
 pub record IsSame (old new : Desk) : Type 0 where
   pub id : new.caller.work.id ≡ old.caller.work.id
   pub clients : new.caller.work.clients ≡ old.caller.work.clients
+  pub room : 2 ≤ old.caller.work.room → 2 ≤ new.caller.work.room
 
 -- its seat filled no cell
 abbrev pub FillsNone : Desk → Desk → Type 0

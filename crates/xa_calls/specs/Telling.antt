@@ -1,16 +1,18 @@
 -- What the worker notes of one call, and what its caller is told (XATMI, tpcall; that a server's program is told by a frame is this project's own).
-use Rattle.std.specs.Prelude.{◌≡◌, ◌⊎◌, ℕ, Bool, true, false, List, [], ◌∷◌, ◌++◌, Result, Ok, Err}
+use Rattle.std.specs.Prelude.{◌≡◌, ◌⊎◌, ℕ, Bool, true, false, List, [], ◌∷◌, ◌++◌, None, Result, Ok, Err}
+use Rattle.std.specs.List.{All}
 use Rattle.xa_desk.specs.xa_types.declared.reply.Reply.TheVariants as replies
 use Rattle.xa_desk.specs.xa_events.declared.event.Event.{Event}
-use Rattle.xa_desk.specs.xa_events.declared.event.Event.TheVariants.{Accept, Answer, Refuse, Priority}
+use Rattle.xa_desk.specs.xa_events.declared.event.Event.TheVariants.{Answer, Refuse, Priority}
 use Rattle.xa_desk.specs.xa_events.declared.event.Replied.{Replied}
-use Rattle.xa_desk.specs.xa_events.Caller.{last_op}
+use Rattle.xa_desk.specs.xa_events.Caller.{last_op, tick_of, tick_in}
 use Rattle.xa_desk.specs.xa_events.Said.{is_op, reply_at, refusal_reply}
 use Rattle.xa_desk.specs.xa_stamp.declared.home.Stamped.{Stamped}
 use Rattle.xa_desk.specs.xa_worker.Seen.{past_in}
 use Rattle.xa_desk.specs.xa_worker.declared.work.Halt.TheVariants.{NoMemory}
 use Rattle.xa_desk.specs.xa_worker.Work.{theirs}
 use Rattle.xa_desk.specs.xa_caller.declared.phase.Phase.TheVariants.{Idle}
+use Rattle.xa_desk.specs.xa_pipe.Following.{is_accept, AreCall}
 use Rattle.xa_desk.specs.declared.desk.Desk.{Desk}
 use Rattle.xa_desk.specs.declared.stopped.Stopped.{Stopped}
 use Rattle.xa_desk.specs.declared.stopped.Stopped.TheVariants as ends
@@ -21,16 +23,6 @@ use Rattle.xa_calls.specs.declared.telling.Told.TheVariants as tells
 use Rattle.xa_calls.specs.Going.{IsSame}
 
 -- ---- what is noted
-
-abbrev pub is_accept : Event → Bool
-is_accept (Accept a) = true
-is_accept e = false
-
--- the events of one call of the caller, the newest first: one, or what became of its request and the accept of that
-abbrev pub AreCall : ℕ → ℕ → List Event → Type 0
-AreCall caller n (e ∷ []) = is_op caller n e ≡ true
-AreCall caller n (e ∷ a ∷ []) = (is_op caller n e ≡ true) × (is_accept e ≡ false) × (is_op caller n a ≡ true) × (is_accept a ≡ true)
-AreCall caller n events = ⊥
 
 -- the worker noted nothing
 abbrev pub IsQuiet : Desk → Desk → Type 0
@@ -47,9 +39,9 @@ pub record NotesOne (number : ℕ) (P : Event → List Event → Type 0) (old ne
 abbrev pub Accepts : Event → List Event → Type 0
 Accepts e before = is_accept e ≡ true
 
--- the call is over: it is refused, or done, or its own request is answered
+-- the call is over: it is refused, by what names no tick, or done, or its own request is answered
 abbrev pub Closes : Event → List Event → Type 0
-Closes (Refuse r) before = refusal_reply r.fault r.evidence ≡ replies.Fault r.fault
+Closes (Refuse r) before = (refusal_reply r.fault r.evidence ≡ replies.Fault r.fault) × (tick_of r.evidence ≡ None)
 Closes (Priority p) before = Unit {0}
 Closes (Answer a) before = last_op a.by.0 before ≡ a.op
 Closes e before = ⊥
@@ -100,7 +92,7 @@ Says tells.Done number caller past = reply_at past caller number ≡ replies.Don
 Says (tells.Fault fault) number caller past = reply_at past caller number ≡ replies.Fault fault
 Says tells.Answered number caller past = (a : Replied) × (older : List Event) × (past ≡ Answer a ∷ older) × (reply_at past caller number ≡ replies.Answered 0 a.answer)
 
--- all that the worker noted is this one call, and its caller is told what that says
+-- all that the worker noted is this one call, of which no event names a tick, and its caller is told what that says
 pub record IsTold (told : Told) (number : ℕ) (old new : Desk) : Type 0 where
   pub more : List Event
   pub noted : theirs new.caller.work ≡ more ++ theirs old.caller.work
@@ -108,4 +100,5 @@ pub record IsTold (told : Told) (number : ℕ) (old new : Desk) : Type 0 where
   pub own : new.caller.work.own ≡ old.caller.work.own ++ added
   pub events : past_in added ≡ more
   pub call : AreCall old.caller.work.id.0 number more
+  pub ticks : All (λ (e : Event). tick_in old.caller.work.clients old.caller.work.id.0 e ≡ None) more
   pub says : Says told number new.caller.work.id.0 (theirs new.caller.work)

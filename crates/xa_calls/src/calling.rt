@@ -1,6 +1,9 @@
 // A caller makes a call.
 ghost use Rattle.std.specs.Prelude.{◌≡◌, ◌+◌, ◌<◌, false, Ok, OnOk, IfOk, IfErr};
 ghost use Rattle.xa_desk.specs.xa_types.declared.call.Op.TheVariants.{Call, Priority};
+ghost use Rattle.xa_desk.specs.xa_events.Said.{is_op};
+ghost use Rattle.xa_desk.specs.xa_events.Words.{count};
+ghost use Rattle.xa_desk.specs.xa_worker.Work.{theirs};
 ghost use Rattle.xa_desk.specs.Desks.{IsDomain};
 ghost use Rattle.xa_desk.specs.xa_caller.Caller.{MayCall};
 ghost use Rattle.xa_calls.specs.Going.{IsReady, IsWaiting, IsStopped, PerformsBy, FoundPending, ToldAs, IsCall, told_by};
@@ -156,8 +159,8 @@ fn make<W: Wait, G>(
     }
 }
 
-/// Makes its next call, which has that number: it is answered, done or refused, or the run halts. Where memory runs out
-/// nothing was noted, and the call may be made again.
+/// Makes its next call, which has that number, as no event of its caller has yet: it is answered, done or refused, or the
+/// run halts. Where memory runs out nothing was noted, and the call may be made again.
 pub fn perform<W: Wait, G: Gate>(
     monitor: &Monitor<'_, W, G>,
     desk: &mut Desk,
@@ -174,8 +177,10 @@ pub fn perform<W: Wait, G: Gate>(
     ensures made { OnOk result (IsReady monitor.now.domain.now number desk.new) }
     ensures stopped { IfErr result (IsStopped desk.new) }
     ensures told { IfOk result (λ told. IsTold told number desk.old desk.new) }
+    ensures fresh { count (is_op desk.old.caller.work.id.0 number) (theirs desk.old.caller.work) ≡ 0 }
     ensures within { IfErr result (λ stopped. StoppedIn number stopped desk.old desk.new) }
 {
+    let _last = desk.caller.op();
     if monitor.domain.halt.get().is_some() {
         return Err(Stopped::Elsewhere);
     }

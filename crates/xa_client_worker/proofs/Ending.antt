@@ -30,6 +30,7 @@ use Rattle.xa_desk.proofs.Leading.{leads_trans}
 use Rattle.xa_client_worker.specs.declared.working.Ended.{Ended}
 use Rattle.xa_calls.specs.Going.{IsReady as IsReadyAt, IsSame, PerformsBy}
 use Rattle.xa_calls.proofs.Going.{same_trans}
+use Rattle.xa_calls.proofs.Resting.{same_by}
 use Rattle.xa_client_worker.specs.Going.{IsReady}
 use Rattle.xa_client_worker.specs.Ending.{FitsBy, GoesThrough, HasMade, HasEnded, HasStopped, here_by}
 
@@ -58,9 +59,9 @@ called_before w stamp = ap (find (is_call_of w.id.0)) (theirs-more w (record { s
 
 module _ (d : Domain) (desk : Desk) where
   pub leaves_same : (ended : Desk) (halt : Option Halt) → LeavesAs halt ended.caller.work desk.caller.work → IsSame desk ended
-  leaves_same ended None (inl left) = record { id = ap (λ (w : WorkState). w.id) left.1.2; clients = ap (λ (w : WorkState). w.clients) left.1.2 }
-  leaves_same ended None (inr left) = record { id = ap (λ (w : WorkState). w.id) left.1; clients = ap (λ (w : WorkState). w.clients) left.1 }
-  leaves_same ended (Some halt) left = record { id = ap (λ (w : WorkState). w.id) left.2; clients = ap (λ (w : WorkState). w.clients) left.2 }
+  leaves_same ended None (inl left) = same_by desk ended _ left.1.2 refl refl refl
+  leaves_same ended None (inr left) = same_by desk ended _ left.1 refl refl refl
+  leaves_same ended (Some halt) left = same_by desk ended _ left.2 refl refl refl
 
   -- where it came to no halt it has made its calls
   pub leaves_made : (new : WorkState) (halt : Option Halt) → IsReady d desk.caller.op desk → IsSound desk.caller → here_by halt ≡ None → LeavesAs halt new desk.caller.work → HasMade desk.caller.op new

@@ -27,7 +27,7 @@ use Rattle.xa_server.specs.xa_caller.declared.outcomes.Prepared.{Prepared as Mad
 use Rattle.xa_server.specs.xa_caller.declared.outcomes.Stop.{Stop}
 use Rattle.xa_server.specs.xa_caller.declared.outcomes.Stop.TheVariants as stops
 use Rattle.xa_server.specs.xa_caller.declared.phase.Draft.{Draft}
-use Rattle.xa_server.specs.xa_caller.Caller.{CallerState}
+use Rattle.xa_server.specs.xa_caller.Caller.{CallerState, room_to_send}
 use Rattle.xa_server.specs.xa_caller.Changes.{Prepares, Refuses, StopsAs, Limits}
 use Rattle.xa_server.specs.xa_caller.Drafts.{accepted_by, entry_by}
 use Rattle.xa_server.specs.xa_caller.Phases.{just_in}
@@ -86,7 +86,7 @@ module _ (d : Domain) (desk : Desk) (found : FoundRows) (op : ℕ) (ask : Ask) (
     quiet =
         let made = makes.made in
         record {
-          grew = grew_none desk.caller.work new.work (max desk.caller.work.room 1) desk.caller.work.stamp (ap (λ (c : CallerState). c.work) made) (omega arith);
+          grew = grew_none desk.caller.work new.work (max desk.caller.work.room room_to_send) desk.caller.work.stamp (ap (λ (c : CallerState). c.work) made) (omega arith);
           seat = seat;
           takes = keeps_on (known desk.caller.seat) (known new.seat) (began_keeps d.cells _ desk.caller.seat new.seat makes.draft.asked.place prepared.entry.cargo.ticket makes.began);
           least = ap (λ (c : CallerState). c.least) made;
@@ -133,7 +133,7 @@ module _ (d : Domain) (desk : Desk) (found : FoundRows) (op : ℕ) (ask : Ask) (
   -- with all cells in use
   by_limit : (stamp : Stamp) → Limits op stamp new desk.caller → GoesFor d op ask desk Next
   by_limit stamp limits =
-      let left : CallerState = record desk.caller { work = record desk.caller.work { room = max desk.caller.work.room 1 }; seat = limits.seat } in
+      let left : CallerState = record desk.caller { work = record desk.caller.work { room = max desk.caller.work.room room_to_send }; seat = limits.seat } in
       let same : IsSame d desk left = record { work = refl; seat = subst (IsSeatOf d.cells) (ap (λ (c : CallerState). c.seat) limits.refuses.made) seat; takes = keeps_on (known desk.caller.seat) (known limits.seat) (full_keeps desk.caller.seat limits.seat limits.taken); least = refl } in
       let goes = refuse_goes d desk left new op Limit (Cells desk.caller.seat.count) stamp is same limits.refuses tt tt (λ whole on. tt) (λ whole on. tt) reads idle in
       (goes.0, goes.1 ask (λ whole on. (valid, refl)))

@@ -1,11 +1,12 @@
-use Rattle.std.proofs.Common.{◌≡◌, ℕ, ◌+◌, ◌<◌, sym, ◌∙◌, ap, subst, arith}
+use Rattle.std.proofs.Common.{◌≡◌, ℕ, ◌+◌, ◌<◌, refl, sym, ◌∙◌, ap, subst, arith}
 use Rattle.xa_desk.specs.xa_caller.Caller.{CallerState}
 use Rattle.xa_desk.specs.Found.{HasFound}
 use Rattle.xa_calls.specs.Going.{IsSame, GoesBy, refused_by}
 use Rattle.xa_calls.specs.Sending.{IsItsOwn}
 use Rattle.xa_calls.specs.Telling.{TriedNotes}
 use Rattle.xa_calls.proofs.Noting.{may_still, may_tried, quiet_tried, stops_notes}
-use Rattle.xa_calls.proofs.Going.{goes_trans, sees_on, prepared_on, stopped_on, stopped_same, first_by, tried_on, tries_from, stopped_tries}
+use Rattle.xa_calls.proofs.Resting.{same_desk, same_by}
+use Rattle.xa_calls.proofs.Going.{same_trans, goes_trans, sees_on, prepared_same, prepared_on, stopped_on, stopped_same, first_by, tried_on, tries_from, stopped_tries}
 use Rattle.xa_calls.proofs.sending.try_to_send.Goals as goal
 
 pub put_on_one-requires-clause-first : goal.put_on_one-requires-clause-first
@@ -44,14 +45,15 @@ above op before turn = omega (arith, turn)
 pub prepare-requires-clause-active : goal.prepare-requires-clause-active
 prepare-requires-clause-active g c =
     let sees = c.look_up.ensures.caller.1 in
-    may_still c.args.desk.now c.look_up.new.self (record { id = ap (λ (k : CallerState). k.work.id) sees; clients = ap (λ (k : CallerState). k.work.clients) sees }) (ap (λ (k : CallerState). k.work.own) sees) c.requires.active
+    may_still c.args.desk.now c.look_up.new.self (same_by c.args.desk.now c.look_up.new.self _ (ap (λ (k : CallerState). k.work) sees) refl refl refl) (ap (λ (k : CallerState). k.work.own) sees) c.requires.active
 
 pub put_on_one-requires-clause-active : goal.put_on_one-requires-clause-active
 put_on_one-requires-clause-active g c =
     let sees = c.look_up.ensures.caller.1 in
     let made = c.in-Ok.ensures.made.made in
     may_still c.args.desk.now c.prepare.new.self
-    (record { id = ap (λ (k : CallerState). k.work.id) made ∙ ap (λ (k : CallerState). k.work.id) sees; clients = ap (λ (k : CallerState). k.work.clients) made ∙ ap (λ (k : CallerState). k.work.clients) sees })
+    (same_trans c.args.desk.now c.look_up.new.self c.prepare.new.self (same_by c.args.desk.now c.look_up.new.self _ (ap (λ (k : CallerState). k.work) sees) refl refl refl)
+    (prepared_same c.args.monitor.now.domain.now c.args.ask.now c.args.op c.look_up.new.self.reader.found c.in-Ok.prepared c.look_up.new.self c.prepare.new.self c.in-Ok.ensures.made))
     (ap (λ (k : CallerState). k.work.own) made ∙ ap (λ (k : CallerState). k.work.own) sees) c.requires.active
 
 pub put_on_one-requires-clause-its : goal.put_on_one-requires-clause-its
@@ -66,7 +68,8 @@ returns-in-Ok-clause-notes g c =
     let made = c.in-Ok.ensures.made.made in
     let turn = ap (λ n. n + 1) (ap (λ (k : CallerState). k.op) made ∙ ap (λ (k : CallerState). k.op) sees) ∙ sym c.requires.turn in
     quiet_tried op c.put_on_one.result c.args.desk.now c.prepare.new.self c.put_on_one.new.desk
-    (record { id = ap (λ (k : CallerState). k.work.id) made ∙ ap (λ (k : CallerState). k.work.id) sees; clients = ap (λ (k : CallerState). k.work.clients) made ∙ ap (λ (k : CallerState). k.work.clients) sees })
+    (same_trans c.args.desk.now c.look_up.new.self c.prepare.new.self (same_by c.args.desk.now c.look_up.new.self _ (ap (λ (k : CallerState). k.work) sees) refl refl refl)
+    (prepared_same c.args.monitor.now.domain.now c.args.ask.now c.args.op c.look_up.new.self.reader.found c.in-Ok.prepared c.look_up.new.self c.prepare.new.self c.in-Ok.ensures.made))
     (ap (λ (k : CallerState). k.work.own) made ∙ ap (λ (k : CallerState). k.work.own) sees)
     (subst (λ (n : ℕ). TriedNotes n c.put_on_one.result c.prepare.new.self c.put_on_one.new.desk) turn c.put_on_one.ensures.notes)
 
@@ -77,7 +80,7 @@ returns-in-Err-clause-notes g c =
     let seen = c.look_up.new.self in
     let sees = c.look_up.ensures.caller.1 in
     subst (λ r. TriedNotes op r c.args.desk.now c.prepare.new.self) (sym c.refused_by.ensures)
-    (quiet_tried op (refused_by c.in-Err.stop) c.args.desk.now seen c.prepare.new.self (record { id = ap (λ (k : CallerState). k.work.id) sees; clients = ap (λ (k : CallerState). k.work.clients) sees }) (ap (λ (k : CallerState). k.work.own) sees)
+    (quiet_tried op (refused_by c.in-Err.stop) c.args.desk.now seen c.prepare.new.self (same_by c.args.desk.now c.look_up.new.self _ (ap (λ (k : CallerState). k.work) sees) refl refl refl) (ap (λ (k : CallerState). k.work.own) sees)
     (stops_notes d.setup op c.args.ask.now.payload seen.reader.found c.in-Err.stop seen c.prepare.new.self (above op c.args.desk.now.caller.op c.requires.turn) (ap (λ (k : CallerState). k.phase) sees ∙ c.requires.ready.idle) c.in-Err.ensures.stopped))
 
 pub returns-in-Err-clause-active : goal.returns-in-Err-clause-active
@@ -86,8 +89,8 @@ returns-in-Err-clause-active g c =
     let op : ℕ = c.args.op in
     let seen = c.look_up.new.self in
     let sees = c.look_up.ensures.caller.1 in
-    let first : IsSame c.args.desk.now seen = record { id = ap (λ (k : CallerState). k.work.id) sees; clients = ap (λ (k : CallerState). k.work.clients) sees } in
+    let first : IsSame c.args.desk.now seen = same_by c.args.desk.now seen _ (ap (λ (k : CallerState). k.work) sees) refl refl refl in
     let stopped = stopped_same d c.args.ask.now op seen.reader.found c.in-Err.stop seen.caller c.prepare.new.self.caller c.in-Err.ensures.stopped in
-    may_tried op (refused_by c.in-Err.stop) seen c.prepare.new.self (record { id = stopped.0; clients = stopped.1 })
+    may_tried op (refused_by c.in-Err.stop) seen c.prepare.new.self (same_desk seen c.prepare.new.self stopped)
     (stops_notes d.setup op c.args.ask.now.payload seen.reader.found c.in-Err.stop seen c.prepare.new.self (above op c.args.desk.now.caller.op c.requires.turn) (ap (λ (k : CallerState). k.phase) sees ∙ c.requires.ready.idle) c.in-Err.ensures.stopped)
     (may_still c.args.desk.now seen first (ap (λ (k : CallerState). k.work.own) sees) c.requires.active)

@@ -1,9 +1,10 @@
-use Rattle.std.proofs.Common.{Option, sym, ◌∙◌, ap, subst, OnOk}
+use Rattle.std.proofs.Common.{Option, refl, sym, ◌∙◌, ap, subst, OnOk}
 use Rattle.std.specs.Prelude.{IfErr, IfSome}
 use Rattle.xa_desk.specs.xa_worker.Work.{WorkState}
 use Rattle.xa_desk.specs.declared.stopped.Stopped.{Stopped}
 use Rattle.xa_desk.specs.Halting.{IsStopAt}
 use Rattle.xa_calls.specs.Going.{IsStopped}
+use Rattle.xa_calls.proofs.Resting.{same_by}
 use Rattle.xa_client_worker.specs.Going.{IsReady}
 use Rattle.xa_client_worker.proofs.Ending.{leaves_same, leaves_made, leaves_halted, stopped_still, given_up_fits}
 use Rattle.xa_client_worker.proofs.working.leave.Goals as goal
@@ -35,7 +36,7 @@ returns-in-Err-clause-ended c =
       left = left.1;
       leads = left.2;
       fits = given_up_fits d desk left.0 left.2 left.3;
-      same = record { id = ap (λ (w : WorkState). w.id) left.3; clients = ap (λ (w : WorkState). w.clients) left.3 };
+      same = same_by desk left.0 _ left.3 refl refl refl;
       all = λ none. absurd (cc none);
       halts = stopped_still d desk left.0 c.in-Err.stopped left.3 (subst (λ made. IfErr made (IsStopped desk)) c.in-Err.is c.requires.out).1;
     }
