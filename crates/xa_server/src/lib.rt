@@ -2,6 +2,7 @@
 //! worker's events alone. Beside it stands what the seats of all workers show of answers.
 #![tactic(auto)]
 
+mod answering;
 mod closing;
 pub mod fillings;
 mod forwarding;
@@ -48,7 +49,7 @@ pub mod lock {
 }
 
 pub mod pipe {
-    pub use xa_pipe::{Answered, CutLife, EndedLife, Finish, Forward, Life, Pipes, Return};
+    pub use xa_pipe::{Act, Acted, CutLife, EndedLife, Finish, Forward, Life, Pipes, Return};
 }
 
 pub mod queue {
