@@ -3,6 +3,7 @@ pub mod Next
 pub mod Keeping
 pub mod Unsent
 pub mod Sound
+pub mod Spelled
 pub mod Tickets
 -- what crates above cite of the lemmas of those below
 pub use Rattle.xa_types.proofs as xa_types

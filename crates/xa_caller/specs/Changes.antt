@@ -16,6 +16,7 @@ use Rattle.xa_events.specs.declared.event.Evidence.TheVariants.{Version, Cells}
 use Rattle.xa_types.specs.declared.setup.Setup.{Setup}
 use Rattle.xa_types.specs.declared.fault.Fault.TheVariants.{NoEnt, IType, Limit}
 use Rattle.xa_events.specs.Answers.{answer_to}
+use Rattle.xa_frame.specs.Spelling.{IsAnswer}
 use Rattle.xa_events.specs.Caller.{version_in, is_client}
 use Rattle.xa_cell.specs.Views.{at}
 use Rattle.xa_cell.specs.Known.{known}
@@ -123,7 +124,7 @@ pub record Sends (stamp : Stamp) (new old : CallerState) : Type 0 where
 
 -- ---- reply
 
--- the answer was taken from the cell, and the caller is told it, in room that was made when the request was sent
+-- the answer was taken from the cell, and the caller is told it, in room that was made when the request was sent; it has a spelling
 pub record Answers (expect : Option Kind) (stamp : Stamp) (new old : CallerState) : Type 0 where
   pub sent : Open
   pub was : old.phase ≡ Sent sent
@@ -132,6 +133,7 @@ pub record Answers (expect : Option Kind) (stamp : Stamp) (new old : CallerState
   pub filling : Filling
   pub reply : Reply
   pub says : filling.answer ≡ Some reply
+  pub sound : IsAnswer (answer_to expect reply)
   pub took : TookAs sent.place.cell filling (looked sent.place.cell 0 (known old.seat)) (known new.seat)
   pub noted : Notes stamp (Answer (record { by = old.work.id; op = old.op; request = sent.request; answer = answer_to expect reply }))
       (record old { work = record (seeing filling.stamp old.work) { room = old.work.room - 1 }; seat = new.seat; phase = Idle }) new

@@ -4,6 +4,7 @@ pub mod Caller
 pub mod Changes
 pub mod Kept
 pub mod Serving
+pub mod Sound
 pub mod Unsent
 -- what crates above cite of the definitions of those below
 pub use Rattle.xa_types.specs as xa_types

@@ -144,7 +144,7 @@ of_both a b c first second = record {
 
 -- what the caller of a request that was swept is to be told
 pub to_tell : (d : Domain) (desk new : Desk) (entry : Entry Cargo) (queue : QueueId) (stamp : Stamp) → IsRight d.cells entry → new.caller ≡ noted_off stamp (Sweep (record { request = entry.request; queue = queue })) desk.caller
-    → (closing : Closing) → closing ≡ closing_of entry (Some (reply_of SweptAway)) stamp → IsToTell d new closing
+    → (closing : Closing) → closing ≡ closing_of entry (Some (reply_of SweptAway)) stamp tt → IsToTell d new closing
 to_tell d desk new entry queue stamp right caller closing is =
     let x : Stamped = record { stamp = stamp; event = Sweep (record { request = entry.request; queue = queue }) } in
     let own : new.caller.work.own ≡ desk.caller.work.own ++ x ∷ [] = ap (λ (c : CallerState). c.work.own) caller in
@@ -184,7 +184,7 @@ module _ {d : Domain} {queue k : ℕ} {desk new : Desk} {p p' : QueuePass} {last
 
   -- a request was swept
   module _ (out : Outgoing Cargo) (did : SweptAs V seen maker (Ok (Some out))) (caller : new.caller ≡ noted_off out.noted.stamp out.noted.event.value desk.caller) where
-    pub swept_goes : GaveUp d queue desk → (closing : Closing) → closing ≡ closing_of out.entry (Some (reply_of SweptAway)) out.noted.stamp → Leads d desk new × OfDomain desk new × IsToTell d new closing × IsSome closing.ticket × (new.caller ≡ noted_off out.noted.stamp (Sweep (record { request = out.entry.request; queue = record { 0 = queue } })) desk.caller)
+    pub swept_goes : GaveUp d queue desk → (closing : Closing) → closing ≡ closing_of out.entry (Some (reply_of SweptAway)) out.noted.stamp tt → Leads d desk new × OfDomain desk new × IsToTell d new closing × IsSome closing.ticket × (new.caller ≡ noted_off out.noted.stamp (Sweep (record { request = out.entry.request; queue = record { 0 = queue } })) desk.caller)
     swept_goes gave closing is =
         let its : Event = Sweep (record { request = out.entry.request; queue = did.old.queue.id }) in
         let next = did.how.0.noted.notes.next ∙ ap (λ s. next_stamp s did.old.queue) saw in

@@ -178,6 +178,6 @@ settles_sweep : (x : Swept) (request : RequestId) → request ≡ x.request → 
 settles_sweep x request is = subst (λ b. IsSomeAnd (if b then Some SweptAway else None) (λ (how : Settlement). reply_of SweptAway ≡ reply_of how)) (sym (same_request_of x.request request (sym is))) refl
 
 pub sweep_backed : (entries : List Stamped) (entry : Entry Cargo) (queue : QueueId) (stamp : Stamp) → Contains entries (record { stamp = stamp; event = Sweep (record { request = entry.request; queue = queue }) })
-    → NamesIts (Some entry) → IsBacked entries (closing_of entry (Some (reply_of SweptAway)) stamp)
+    → NamesIts (Some entry) → IsBacked entries (closing_of entry (Some (reply_of SweptAway)) stamp tt)
 sweep_backed entries entry queue stamp stands names =
     (record { stamp = stamp; event = Sweep (record { request = entry.request; queue = queue }) }, stands, λ o named_so. record { by = omega arith; tells = settles_sweep (record { request = entry.request; queue = queue }) o.request (names o named_so) })

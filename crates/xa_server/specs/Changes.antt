@@ -16,7 +16,9 @@ use Rattle.xa_caller.specs.xa_events.Request.Settlement.{EndedBy}
 use Rattle.xa_caller.specs.xa_events.declared.event.Doing.{Doing}
 use Rattle.xa_caller.specs.xa_types.declared.stamp.Worn.{Worn}
 use Rattle.xa_caller.specs.xa_types.declared.reply.Answer.{Answer}
+use Rattle.xa_caller.specs.xa_frame.Spelling.{IsAnswer}
 use Rattle.xa_caller.specs.xa_queue.declared.entry.Entry.{Entry}
+use Rattle.xa_caller.specs.Sound.{IsSoundAnswer}
 use Rattle.xa_caller.specs.Drafts.{Cargo}
 use Rattle.xa_caller.specs.xa_held.declared.cargo.Invocation.{Invocation}
 use Rattle.xa_server.specs.declared.closing.Closing.{Closing}
@@ -87,21 +89,22 @@ pub record Ends (outcome : Outcome) (stamp : Stamp) (slot' slot : ServerSlot) (n
   pub noted : Notes stamp (End (record { request = entry.request; server = slot.server; generation = life_in slot.doing; outcome = outcome })) new old
   pub left : slot' ≡ record slot { doing = after_end outcome (life_in slot.doing); last = last_by outcome }
 
--- the request of that entry ended, and its caller is to be told so
-abbrev pub closing_of : Entry Cargo → Option Answer → Stamp → Closing
-closing_of entry answer stamp = record { request = Some entry.request; ticket = Some entry.cargo.ticket; answer = answer; stamp = stamp }
+-- the request of that entry ended, and its caller is to be told so, by an answer that has a spelling
+abbrev pub closing_of : Entry Cargo → (answer : Option Answer) → Stamp → IsSoundAnswer answer → Closing
+closing_of entry answer stamp sound = record { request = Some entry.request; ticket = Some entry.cargo.ticket; answer = answer; stamp = stamp; sound = ∣ sound ∣₁ }
 
 -- what the caller of the request in hand is to be told of its end
 pub record Closes (answer : Answer) (stamp : Stamp) (hand : Option (Entry Cargo)) (closing : Closing) : Type 0 where
   pub entry : Entry Cargo
   pub in_hand : hand ≡ Some entry
-  pub is : closing ≡ closing_of entry (Some answer) stamp
+  pub sound : IsAnswer answer
+  pub is : closing ≡ closing_of entry (Some answer) stamp sound
 
 -- the caller of the request in hand is to be told that the run halts
 pub record Abandons (hand : Option (Entry Cargo)) (closing : Closing) : Type 0 where
   pub entry : Entry Cargo
   pub in_hand : hand ≡ Some entry
-  pub is : closing ≡ closing_of entry None (record { 0 = 0 })
+  pub is : closing ≡ closing_of entry None (record { 0 = 0 }) tt
 
 -- the request in hand ended so, with room made before, and its caller is to be told
 pub record Finishes (outcome : Outcome) (closing : Closing) (slot' slot : ServerSlot) (new old : WorkState) : Type 0 where

@@ -1,27 +1,23 @@
 // The end of a request, which its caller has to be told.
-ghost use Rattle.std.specs.Prelude.{◌≡◌, ◌≤◌, IfOk, IfSome};
-ghost use Rattle.xa_caller.specs.xa_events.Answers.{reply_of};
-ghost use Rattle.xa_caller.specs.xa_events.Request.Settlement.{EndedBy};
+ghost use Rattle.std.specs.Prelude.{◌≡◌, ◌≤◌, IfSome};
 ghost use Rattle.xa_caller.specs.xa_stamp.Home.{last_stamp};
 ghost use Rattle.xa_caller.specs.xa_worker.Crew.{no_stamp};
+ghost use Rattle.xa_caller.specs.Sound.{IsSoundAnswer};
 ghost use Rattle.xa_caller.specs.xa_cell.Known.{known, IsSeatOf, IsTicketOf, SameSeat};
-ghost use Rattle.xa_server.specs.Changes.{closing_of};
-ghost use Rattle.xa_server.specs.Told.{GivenAs};
 
-use std::alloc::Global;
 use xa_caller::cell::{Cells, Filled, Ticket};
-use xa_caller::events::Outcome;
-use xa_caller::queue::Entry;
-use xa_caller::types::{Answer, Fault, NoMemory, RequestId, Stamp};
-use xa_caller::{Caller, Cargo, Filling};
+use xa_caller::types::{Answer, RequestId, Stamp};
+use xa_caller::{Caller, Filling};
 
 /// A request that ended, what its caller is to be told, and the stamp of the event by which it ended: it ends in `give`. There
-/// is no answer where the run halts, and neither request nor ticket where a life ended with nothing in hand.
+/// is no answer where the run halts, and neither request nor ticket where a life ended with nothing in hand. An answer has a
+/// spelling.
 pub struct Closing {
     pub request: Option<RequestId>,
     pub ticket: Option<Ticket<Filling>>,
     pub answer: Option<Answer>,
     pub stamp: Stamp,
+    pub ghost sound: { ∥ IsSoundAnswer answer ∥₁ },
 }
 
 /// What became of an answer: it came to its caller, its caller had given its place up, or nobody waits for one.
@@ -32,40 +28,9 @@ pub enum Given {
     Nothing,
 }
 
-// What the caller is told of a request that ended so.
-pub(crate) fn reply_to(alloc: Global, outcome: &Outcome) -> Result<Answer, NoMemory>
-    ensures { IfOk result (λ answer. answer ≡ reply_of (EndedBy outcome.now)) }
-{
-    match outcome {
-        Outcome::Returned(code, payload) => Ok(Answer::Success(*code, payload.copy(alloc)?)),
-        Outcome::Failed(code, payload) => Ok(Answer::Failed(*code, payload.copy(alloc)?)),
-        Outcome::BadReturn | Outcome::BadForward(_) | Outcome::Died => {
-            Ok(Answer::Error(Fault::SvcErr))
-        }
-        Outcome::Starved => Ok(Answer::Error(Fault::NoMemory)),
-    }
-}
-
-// The answer to the request of that entry, which ended with that stamp, if it ended.
-pub(crate) fn close(entry: Entry<Cargo>, answer: Option<Answer>, stamp: Stamp) -> Closing
-    ensures { result ≡ closing_of entry answer stamp }
-{
-    let Entry {
-        request,
-        priority: _,
-        cargo,
-    } = entry;
-    let Cargo { ticket, invocation } = cargo;
-    drop(invocation);
-    Closing {
-        request: Some(request),
-        ticket: Some(ticket),
-        answer,
-        stamp,
-    }
-}
-
 impl Closing {
+    ghost use Rattle.xa_server.specs.Told.{GivenAs};
+
     /// The request that ended, if one did.
     pub fn request(&self) -> Option<RequestId>
         ensures { result ≡ self.now.request }

@@ -17,7 +17,8 @@ ghost use Rattle.xa_server.specs.Forwarding.{way_of, hop_in, forwarded_by, Fails
 ghost use Rattle.xa_server.specs.Noting.{HaltsWith};
 ghost use Rattle.xa_server.specs.Slot.{Stands, Tables};
 
-use crate::closing::{Closing, close};
+use crate::answering::close;
+use crate::closing::Closing;
 use crate::noting::note_anew;
 use crate::slot::{Last, ServerSlot, life_in, put_in, take_out};
 use std::alloc::Global;

@@ -64,7 +64,7 @@ pub fn answers_are_backed()
 /// What is closed of a request that was swept has its sweep among entries where that stands with its stamp.
 pub fn sweeps_are_backed()
     ensures { (entries : List Stamped) (entry : Entry Cargo) (queue : QueueId) (stamp : Stamp) → Contains entries (record { stamp = stamp; event = Sweep (record { request = entry.request; queue = queue }) })
-        → NamesIts (Some entry) → IsBacked entries (closing_of entry (Some (reply_of SweptAway)) stamp) }
+        → NamesIts (Some entry) → IsBacked entries (closing_of entry (Some (reply_of SweptAway)) stamp tt) }
 {}
 
 /// Where each filling of a seat has its end or its sweep among a worker's entries, it does so also behind the `give` of a

@@ -2,6 +2,7 @@
 //! worker's events alone. Beside it stands what the seats of all workers show of answers.
 #![tactic(auto)]
 
+mod answering;
 mod closing;
 pub mod fillings;
 mod forwarding;

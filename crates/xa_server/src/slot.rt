@@ -4,6 +4,7 @@ ghost use Rattle.xa_restart.specs.Rule.{may_start_by, IsLast};
 ghost use Rattle.xa_caller.specs.xa_events.declared.event.Doing.TheVariants as doings;
 ghost use Rattle.xa_caller.specs.xa_worker.Work.{noted, theirs};
 ghost use Rattle.xa_caller.specs.declared.phase.Phase.TheVariants as phases;
+ghost use Rattle.xa_caller.specs.xa_types.Configured.{is_configured};
 ghost use Rattle.xa_caller.specs.xa_types.Kind.{is_sound};
 ghost use Rattle.xa_caller.specs.xa_events.declared.event.Outcome.TheVariants.{BadReturn};
 ghost use Rattle.xa_caller.specs.xa_events.Conversation.{connections};
@@ -16,7 +17,8 @@ ghost use Rattle.xa_server.specs.Doings.{life_in, last_by, outcome_of, is_death,
 ghost use Rattle.xa_caller.specs.xa_queue.declared.entry.Entry.{Entry};
 ghost use Rattle.xa_caller.specs.Drafts.{Cargo};
 
-use crate::closing::{Closing, close, reply_to};
+use crate::answering::{close, reply_to};
+use crate::closing::Closing;
 use crate::noting::{note_anew, note_in_room};
 use std::alloc::Global;
 use std::mem;
@@ -300,6 +302,7 @@ impl ServerSlot {
         requires stands { Stands self.old caller.old.work }
         requires idle { caller.old.phase ≡ phases.Idle }
         requires busy { IsBusy self.old.doing }
+        requires configured { is_configured caller.old.work.setup ≡ true }
         requires sound { sound ≡ is_sound caller.old.work.setup payload }
         ensures ok { IfOk result (λ closing. Finishes (return_by caller.old.work.setup (connections caller.old.work.id.0 (theirs caller.old.work)) value code payload) closing self.new self.old caller.new.work caller.old.work) }
         ensures stands { Stands self.new caller.new.work }
@@ -404,7 +407,7 @@ impl ServerSlot {
 
     /// What the caller of a request is to be told that was swept from the server's queue with that stamp.
     pub fn swept(&self, entry: Entry<Cargo>, stamp: Stamp) -> Closing
-        ensures { result ≡ closing_of entry (Some (reply_of SweptAway)) stamp }
+        ensures { result ≡ closing_of entry (Some (reply_of SweptAway)) stamp tt }
     {
         close(entry, Some(Answer::Error(Fault::System)), stamp)
     }
@@ -422,7 +425,7 @@ impl ServerSlot {
 
     /// What the caller of a request that still waits is to be told at a halt.
     pub fn abandon(entry: Entry<Cargo>) -> Closing
-        ensures { result ≡ closing_of entry None (record { 0 = 0 }) }
+        ensures { result ≡ closing_of entry None (record { 0 = 0 }) tt }
     {
         close(entry, None, Stamp(0))
     }

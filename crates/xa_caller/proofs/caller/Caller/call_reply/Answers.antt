@@ -16,6 +16,7 @@ use Rattle.xa_caller.specs.Caller.{CallerState, Reads, IsSound, view_of}
 use Rattle.xa_caller.specs.Kept.{standing_of, Holds, IsSeated}
 use Rattle.xa_caller.proofs.Keeping.{seated-stand, seated-but, settled-took}
 use Rattle.xa_caller.proofs.Reading.{view-more, reads_answered, reads_lost}
+use Rattle.xa_caller.proofs.Spelled.{filled_sound, told_sound}
 use Rattle.std.proofs.Common.{◌-◌, cond, eq-eqb}
 use Rattle.xa_worker.specs.Work.{noted_here}
 use Rattle.xa_types.specs.declared.ids.CallerId.{CallerId}
@@ -80,6 +81,7 @@ returns-in-Ok-clause-step c =
       filling = filling;
       reply = c.in-Some.answer;
       says = c.in-Some.is;
+      sound = told_sound c.args.expect.now c.in-Some.answer (filled_sound filling.answer c.in-Some.answer c.in-Some.is filling.sound);
       took = subst (λ v. TookAs sent.place.cell filling v (known c.take-answer.new.seat)) c.in-Come.ensures.known.0 c.take-answer.ensures.known;
       noted = record { next = c.in-Ok.ensures.stamp.0 ∙ ap (λ n. n + 1) seen; bound = c.in-Ok.ensures.stamp.1; made = made };
     })

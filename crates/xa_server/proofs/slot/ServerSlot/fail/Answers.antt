@@ -46,7 +46,7 @@ returns-clause-ok c =
           left = refl;
         };
         left = ap (λ g. record s { doing = Idle g; hand = c.take_out.new.hand; last = Well }) c.life_in-life.ensures ∙ ap (λ hand. record s { doing = Idle (life_in s.doing); hand = hand; last = Well }) c.take_out.ensures.now;
-        closes = record { entry = c.take_out.result; in_hand = c.take_out.ensures.was; is = c.close.ensures };
+        closes = record { entry = c.take_out.result; in_hand = c.take_out.ensures.was; sound = tt; is = c.close.ensures tt };
       };
       rest = c.in_ok-stamp.ensures.rest ∙ ap (λ (e : Ended). record old { work = new.work; least = raised (version_ended (End e)) old.least }) is;
     }

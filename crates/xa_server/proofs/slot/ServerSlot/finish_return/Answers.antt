@@ -1,18 +1,17 @@
 use Rattle.std.proofs.Math.Facts.{to_z-of_z}
 use Rattle.xa_caller.specs.xa_events.declared.event.Outcome.TheVariants.{BadReturn}
-use Rattle.std.proofs.Common.{◌≡◌, ℤ, if◌then◌else◌, true, Option, None, Some, refl, sym, ◌∙◌, ap, subst}
+use Rattle.std.proofs.Common.{◌≡◌, ℤ, if◌then◌else◌, true, Option, None, refl, sym, ◌∙◌, ap, subst}
 use Rattle.xa_caller.specs.xa_types.declared.reply.Answer.{Answer}
 use Rattle.xa_caller.specs.xa_events.declared.event.Doing.{Doing}
 use Rattle.xa_caller.specs.xa_events.declared.event.Ended.{Ended}
 use Rattle.xa_caller.specs.xa_events.declared.event.Event.TheVariants.{End}
 use Rattle.xa_caller.specs.xa_events.declared.event.Outcome.{Outcome}
-use Rattle.xa_caller.specs.xa_events.Answers.{reply_of}
 use Rattle.xa_caller.specs.xa_events.Caller.{version_of}
 use Rattle.xa_caller.specs.xa_events.Cases.{may_end_so}
 use Rattle.xa_caller.specs.xa_events.Conversation.{connections}
 use Rattle.xa_caller.specs.xa_events.Finishing.{returned, return_by}
-use Rattle.xa_caller.specs.xa_events.Request.Settlement.{EndedBy}
 use Rattle.xa_caller.specs.xa_events.Server.{after_end}
+use Rattle.xa_caller.specs.xa_frame.Spelling.{IsAnswer}
 use Rattle.xa_caller.specs.xa_queue.declared.entry.Entry.{Entry}
 use Rattle.xa_caller.specs.xa_worker.Work.{WorkState, IsNext, theirs, noted_here}
 use Rattle.xa_server.specs.declared.slot.ServerSlot.{ServerSlot}
@@ -21,8 +20,9 @@ use Rattle.xa_caller.specs.Drafts.{Cargo}
 use Rattle.xa_server.specs.Doings.{life_in, last_by}
 use Rattle.xa_server.specs.Noting.{with_room}
 use Rattle.xa_server.specs.Slot.{Stands}
-use Rattle.xa_server.specs.Changes.{closing_of, Finishes}
+use Rattle.xa_server.specs.Changes.{Closes, Finishes}
 use Rattle.xa_server.proofs.Reading.{holding, return_is, return_may, end_of, may_ended, finished_stands}
+use Rattle.xa_server.proofs.Spelled.{answer_sound}
 use Rattle.xa_server.proofs.slot.ServerSlot.finish_return.Goals as goal
 
 pub note_anew-requires-clause-next : goal.note_anew-requires-clause-next
@@ -36,6 +36,11 @@ note_anew-requires-clause-next c =
     (may_ended s w c.requires.stands.tables (end_of s h.0 c.outcome_by-outcome.result) refl h.2
     (subst (λ o. may_end_so w.setup o ≡ true) (sym is) may.0) (subst (λ o. version_of o ≡ None) (sym is) may.1))
 
+pub close-requires : goal.close-requires
+close-requires c =
+    let as_said = c.outcome_by-outcome.ensures ∙ ap (λ (z : ℤ). if c.args.sound then returned c.args.value z c.args.payload else BadReturn) (to_z-of_z c.ranges.code) in
+    answer_sound c.args.caller.now.work.setup c.args.sound c.args.value c.args.code c.args.payload c.requires.configured c.ranges.code c.requires.sound c.outcome_by-outcome.result c.in-Ok.answer as_said c.in-Ok.ensures
+
 pub returns-clause-ok : goal.returns-clause-ok
 returns-clause-ok c =
     let s : ServerSlot = c.args.self.now in
@@ -44,11 +49,11 @@ returns-clause-ok c =
     let o : Outcome = c.outcome_by-outcome.result in
     let noted = c.in_ok-stamp.ensures.noted in
     let stamp = c.in_ok-stamp.stamp in
+    let as_said = c.outcome_by-outcome.ensures ∙ ap (λ (z : ℤ). if c.args.sound then returned c.args.value z c.args.payload else BadReturn) (to_z-of_z c.ranges.code) in
     let is : o ≡ return_by w.setup (connections w.id.0 (theirs w)) c.args.value c.args.code c.args.payload =
-    c.outcome_by-outcome.ensures ∙ ap (λ (z : ℤ). if c.args.sound then returned c.args.value z c.args.payload else BadReturn) (to_z-of_z c.ranges.code) ∙ return_is w.setup (connections w.id.0 (theirs w)) c.args.sound c.args.value c.args.code c.args.payload c.requires.stands.tables.worker.unconnected c.requires.sound in
+    as_said ∙ return_is w.setup (connections w.id.0 (theirs w)) c.args.sound c.args.value c.args.code c.args.payload c.requires.stands.tables.worker.unconnected c.requires.sound in
     let doing : c.after_end-doing.result ≡ after_end o (life_in s.doing) = c.after_end-doing.ensures ∙ ap (after_end o) c.life_in.ensures in
-    let closed : c.close.result ≡ closing_of c.take_out.result (Some (reply_of (EndedBy o))) stamp =
-    c.close.ensures ∙ ap (λ (a : Answer). closing_of c.take_out.result (Some a) stamp) c.in-Ok.ensures in
+    let sound : IsAnswer c.in-Ok.answer = answer_sound w.setup c.args.sound c.args.value c.args.code c.args.payload c.requires.configured c.ranges.code c.requires.sound o c.in-Ok.answer as_said c.in-Ok.ensures in
     subst (λ (o : Outcome). Finishes o c.close.result (record s { doing = c.after_end-doing.result; hand = c.take_out.new.hand; last = c.last_by-last.result }) s c.note_anew.new.caller.work w) is (record {
       stamp = stamp;
       ended = record s { doing = after_end o (life_in s.doing); last = last_by o };
@@ -66,7 +71,7 @@ returns-clause-ok c =
       left = ap (λ (d : Doing). record s { doing = d; hand = c.take_out.new.hand; last = c.last_by-last.result }) doing
           ∙ ap (λ hand. record s { doing = after_end o (life_in s.doing); hand = hand; last = c.last_by-last.result }) c.take_out.ensures.now
           ∙ ap (λ (l : Last). record s { doing = after_end o (life_in s.doing); hand = None; last = l }) c.last_by-last.ensures;
-      closes = record { entry = c.take_out.result; in_hand = c.take_out.ensures.was; is = closed };
+      closes = subst (λ (a : Answer). Closes a stamp s.hand c.close.result) c.in-Ok.ensures (record { entry = c.take_out.result; in_hand = c.take_out.ensures.was; sound = sound; is = c.close.ensures sound });
     })
 
 pub returns-clause-stands : goal.returns-clause-stands
