@@ -4,8 +4,9 @@ use Rattle.std.specs.Prelude.{take, drop, ◌&&◌}
 use Rattle.std.proofs.lemmas.Bool.{and_parts}
 use Rattle.std.proofs.lemmas.List.{length-append}
 use Rattle.std.proofs.Math.Seq.{drop-append_seam}
-use Rattle.std.proofs.lemmas.List.Elements.{All-nil, All-cons}
+use Rattle.std.proofs.lemmas.List.Elements.{All-nil, All-cons, filter-append}
 use Rattle.xa_desk.specs.xa_types.declared.ids.Generation.{Generation}
+use Rattle.xa_desk.specs.xa_types.declared.call.Op.{Op}
 use Rattle.xa_desk.specs.xa_types.declared.ids.RequestId.{RequestId}
 use Rattle.xa_desk.specs.xa_types.declared.ids.ServerId.{ServerId}
 use Rattle.xa_desk.specs.xa_types.declared.call.Rval.{Rval}
@@ -35,16 +36,17 @@ use Rattle.xa_desk.specs.xa_pipe.declared.hearing.Forward.{Forward as Onward}
 use Rattle.xa_desk.specs.xa_pipe.declared.hearing.Finish.{Finish}
 use Rattle.xa_desk.specs.xa_pipe.declared.hearing.Finish.TheVariants.{Returns, Forwards}
 use Rattle.xa_desk.specs.xa_pipe.declared.turn.Turn.{Turn}
-use Rattle.xa_desk.specs.xa_pipe.declared.turn.Turn.TheVariants.{AwaitsReady, AwaitsNext, AwaitsInvoke, Serving, Exited}
-use Rattle.xa_desk.specs.xa_pipe.Frames.{is_of_life, is_take_in, invocation, ready_frame, next_frame, return_frame, forward_frame, finish_frame}
-use Rattle.xa_desk.specs.xa_pipe.Life.{stops_life, LinkShows, EachCame, EndsAs, IsForwarded, ComesTo, came_in, turn_behind, finishes_in}
+use Rattle.xa_desk.specs.xa_pipe.declared.turn.Turn.TheVariants.{AwaitsReady, AwaitsNext, AwaitsInvoke, Serving, Finishing, Performing, Exited}
+use Rattle.xa_desk.specs.xa_pipe.Frames.{is_of_life, is_take_in, is_invoke_body, invokes_in, invocation, ready_frame, next_frame, return_frame, forward_frame, finish_frame}
+use Rattle.xa_desk.specs.xa_pipe.Life.{stops_life, LinkShows, EachCame, EndsAs, IsForwarded, ComesTo, came_in, turn_behind, finishes_in, calls_in, is_acting, is_held}
 use Rattle.xa_desk.specs.xa_pipe.Pipe.{invoke_frame}
-use Rattle.xa_desk.specs.xa_pipe.Standing.{LifeState, IsSound, Ending, IsOver, cut_short, returned, tag_of}
+use Rattle.xa_desk.specs.xa_pipe.Standing.{LifeState, IsSound, Ending, IsOver, cut_short, returned, tag_of, invokes_of, calls_of}
 use Rattle.xa_desk.proofs.xa_pipe.Courses.{cut_sound}
-use Rattle.xa_desk.specs.xa_pipe.Changes.{Heard, Fell, Greeted, FellGreeting, Invoked, Unsent, ShutDown, Exits, next_invoke, with_said, turn_after}
+use Rattle.xa_desk.specs.xa_pipe.Changes.{Heard, Fell, Greeted, FellGreeting, Invoked, Unsent, ShutDown, Exits, next_invoke, with_said, with_asked, turn_after}
 use Rattle.xa_desk.specs.xa_pipe.Following.{is_of, Follows, Settled}
 use Rattle.xa_desk.proofs.xa_pipe.Followed.{follows_greeted, follows_next, follows_take, follows_end, follows_forward, settles_fallen, settles_shut, settles_exited, settles_lost, settles_unsent}
 use Rattle.xa_desk.proofs.xa_pipe.Saying.{finishes_append, finishes_next, finishes_push}
+use Rattle.xa_desk.proofs.xa_pipe.Asking.{calls_append, calls_same, calls_greeted, calls_next, calls_finished, calls_replied, all_made}
 use Rattle.xa_desk.specs.xa_server.declared.closing.Closing.{Closing}
 use Rattle.xa_desk.specs.xa_server.declared.slot.ServerSlot.{ServerSlot}
 use Rattle.xa_desk.specs.xa_server.declared.slot.Last.TheVariants as lasts
@@ -62,9 +64,9 @@ use Rattle.xa_desk.specs.Found.{SawAtQueue}
 use Rattle.xa_desk.specs.Serving.{IsServing, IsSentFor}
 use Rattle.xa_desk.specs.xa_events.Cases.{IsShut}
 use Rattle.xa_server_worker.specs.declared.working.ServerWorker.{ServerWorker}
-use Rattle.xa_server_worker.specs.Lives.{IsHanded, TookEach, HandsOn, IsCut}
+use Rattle.xa_server_worker.specs.Lives.{calls_of_all, IsHanded, TookEach, HandsOn, IsCut}
 use Rattle.xa_server_worker.specs.Steps.{Steps, Takes, is_exit}
-use Rattle.xa_server_worker.specs.Standing.{SettlesBy, IsLast, IsAtWork, IsOff, IsIn, IsFree, HasTaken, MayDie, HasEnded}
+use Rattle.xa_server_worker.specs.Standing.{SettlesBy, HasLived, HasCalled, IsLast, IsAtWork, IsOff, IsIn, IsFree, HasTaken, IsServed, MayDie, HasEnded}
 use Rattle.xa_server_worker.specs.Behind.{is_lost, ends_by, ToldBefore}
 use Rattle.xa_server_worker.specs.Passing.{IsDoneBy, Passes}
 use Rattle.xa_server_worker.proofs.Stepping.{stop_by}
@@ -145,6 +147,52 @@ exits_badly setup conns value code payload exits = by value (is_sound setup payl
     by rvals.Success true is = absurd (cc is)
     by rvals.Fail true is = absurd (cc is)
     by v false is = refl
+
+-- ---- whose turn it is
+
+-- a service is to go on with its request
+pub acting_turn : (turn : Turn) → is_acting turn ≡ true → (turn ≡ Serving) ⊎ (turn ≡ Finishing)
+acting_turn Serving acts = inl refl
+acting_turn Finishing acts = inr refl
+acting_turn AwaitsReady acts = absurd (cc acts)
+acting_turn AwaitsNext acts = absurd (cc acts)
+acting_turn AwaitsInvoke acts = absurd (cc acts)
+acting_turn Performing acts = absurd (cc acts)
+acting_turn Exited acts = absurd (cc acts)
+
+acting_held : (turn : Turn) → is_acting turn ≡ true → is_held turn ≡ true
+acting_held Serving acts = refl
+acting_held Finishing acts = refl
+acting_held AwaitsReady acts = absurd (cc acts)
+acting_held AwaitsNext acts = absurd (cc acts)
+acting_held AwaitsInvoke acts = absurd (cc acts)
+acting_held Performing acts = absurd (cc acts)
+acting_held Exited acts = absurd (cc acts)
+
+greeting_free : (turn : Turn) → (turn ≡ AwaitsReady) ⊎ (turn ≡ AwaitsNext) → is_held turn ≡ false
+greeting_free turn (inl is) = ap is_held is
+greeting_free turn (inr is) = ap is_held is
+
+-- it ends its request in one turn as in the other
+acting_after : (from : Turn) (tag : ℕ) (back : Finish) → is_acting from ≡ true → turn_after from (finish_frame tag back).body ≡ turn_after Serving (finish_frame tag back).body
+acting_after from tag (Returns back) acts = elim (acting_turn from acts) [ inl is ↦ ap (λ (t : Turn). turn_after t (finish_frame tag (Returns back)).body) is | inr is ↦ ap (λ (t : Turn). turn_after t (finish_frame tag (Returns back)).body) is ]
+acting_after from tag (Forwards forward) acts = elim (acting_turn from acts) [ inl is ↦ ap (λ (t : Turn). turn_after t (finish_frame tag (Forwards forward)).body) is | inr is ↦ ap (λ (t : Turn). turn_after t (finish_frame tag (Forwards forward)).body) is ]
+
+pub finish_becomes : {new old : LifeState} {back : Finish} → Heard (finish_frame (tag_of old) back) new old → is_acting old.turn ≡ true → Becomes old.asked new old
+finish_becomes {new} {old} {back} heard acts = record { link = new.link; said = _; turn = _; made = heard.made; calls = calls_finished old new (tag_of old) back heard (acting_turn old.turn acts) }
+
+-- it asks for no call as it says READY
+calls_ready : (link : LinkShows) (old : LifeState) → old.turn ≡ AwaitsReady → calls_of (with_said (ready_frame old.name) link old) ≡ calls_of old
+calls_ready link old turn =
+    calls_same old (with_said (ready_frame old.name) link old) (calls_append old.said (ready_frame old.name ∷ []) ∙ append-nil (calls_in old.said)) (λ was. cc (was, turn))
+    (λ now. let next : turn_after old.turn (ready_frame old.name).body ≡ AwaitsNext = ap (λ (t : Turn). turn_after t (ready_frame old.name).body) turn in cc (next, now))
+
+-- nor as a request is handed to it
+sent_calls : {f : Frame} (life : LifeState) → life.turn ≡ AwaitsInvoke → (new : LifeState) (link : LinkShows) → new ≡ with_asked f link life → calls_of new ≡ calls_of life
+sent_calls {f} life turn new link made = calls_replied life new f link made ∙ sym (all_made life.turn (calls_in life.said) (λ was. cc (was, turn)))
+
+invokes_push : (asked : List Frame) (f : Frame) → is_invoke_body f.body ≡ true → invokes_in (asked ++ f ∷ []) ≡ invokes_in asked ++ f ∷ []
+invokes_push asked f yes = filter-append (λ (g : Frame). is_invoke_body g.body) asked (f ∷ []) ∙ ap (λ (fs : List Frame). invokes_in asked ++ fs) (rw yes refl)
 
 pub exits_turn : (value : Rval) → is_exit value ≡ true → turn_behind value ≡ Exited
 exits_turn rvals.Exit is = refl
@@ -317,7 +365,7 @@ module _ {L T : Type 0} {d : Domain} {shows : T → StarterShows} (w : ServerWor
     sent_handed : AtEach (IsHanded life.server.0 life.generation.0 (invokes_in (life.asked ++ f ∷ [])) (IsSentFor d w.queue.0 w.desk)) (Take has.t ∷ has.before)
     sent_handed =
         let asked : has.entry.cargo.invocation ≡ what = sym (invokes.sent ∙ ap (λ (e : Entry Cargo). e.cargo.invocation) (same_entry invokes.entry has.entry invokes.in_hand has.hand)) in
-        subst (λ (fs : List Frame). AtEach (IsHanded life.server.0 life.generation.0 fs (IsSentFor d w.queue.0 w.desk)) (Take has.t ∷ has.before)) (sym (invokes_push life.asked f)) (
+        subst (λ (fs : List Frame). AtEach (IsHanded life.server.0 life.generation.0 fs (IsSentFor d w.queue.0 w.desk)) (Take has.t ∷ has.before)) (sym (invokes_push life.asked f refl)) (
           λ its. (what, subst (IsSentFor d w.queue.0 w.desk has.t) asked has.taken.sent, invoke_is life has.before has.t what has.its has.going.follows.taken has.asked),
           handed_wider life.server.0 life.generation.0 (invokes_of life) (f ∷ []) (IsSentFor d w.queue.0 w.desk) (IsSentFor d w.queue.0 w.desk) (λ t what sent. sent) has.before has.going.handed,
         )
@@ -334,7 +382,7 @@ module _ {L T : Type 0} {d : Domain} {shows : T → StarterShows} (w : ServerWor
           };
           does = has.does ∙ ap (λ (l : LifeState). Busy l.generation has.t.request) (sym invoked.made);
           turns = ap (λ (l : LifeState). l.turn) invoked.made;
-          asked = ap (λ (l : LifeState). length (invokes_of l)) invoked.made ∙ ap length (invokes_push life.asked f) ∙ length-append (invokes_of life) (f ∷ []) ∙ ap (λ (n : ℕ). n + 1) (has.asked ∙ ap (λ (l : LifeState). length (finishes_in l.said)) (sym invoked.made));
+          asked = ap (λ (l : LifeState). length (invokes_of l)) invoked.made ∙ ap length (invokes_push life.asked f refl) ∙ length-append (invokes_of life) (f ∷ []) ∙ ap (λ (n : ℕ). n + 1) (has.asked ∙ ap (λ (l : LifeState). length (finishes_in l.said)) (sym invoked.made));
           room = has.room;
         }
 
@@ -417,17 +465,17 @@ module _ {L T : Type 0} {d : Domain} {shows : T → StarterShows} (w : ServerWor
   -- ---- it returns or forwards
 
   -- the service is done with the request, and the server is idle
-  pub finished_in : (new old : LifeState) (request : RequestId) (back : Finish) (turn : Turn) (event : Event) (slot' : ServerSlot) (desk' : Desk) → Heard (finish_frame (tag_of old) back) new old → IsIn d shows (Busy old.generation request) Serving 1 old w
+  pub finished_in : (new old : LifeState) (request : RequestId) (from : Turn) (back : Finish) (turn : Turn) (event : Event) (slot' : ServerSlot) (desk' : Desk) → Heard (finish_frame (tag_of old) back) new old → is_acting from ≡ true → IsIn d shows (Busy old.generation request) from 1 old w
       → turn_after Serving (finish_frame (tag_of old) back).body ≡ turn → ComesTo d.setup (ShowsReason d desk') back (record { event = event; before = own_of w }) → ends_by event false ≡ false → IsDoneBy d w.queue.0 event w.served.slot slot' w.desk desk'
       → IsIn d shows (Idle new.generation) turn 0 new (at_desk w slot' desk')
-  finished_in new old request back turn event slot' desk' heard is turns comes ends done =
+  finished_in new old request from back turn event slot' desk' heard acts is turns comes ends done =
       let serves = done.serves in
       let slot : ServerSlot = w.served.slot in
       let lived : life_in slot.doing ≡ old.generation = ap life_in is.does in
       let ours : is_of old.server.0 old.generation.0 event ≡ true =
       ap (λ (s : ServerId). is_of s.0 old.generation.0 event) is.last.server ∙ ap (λ (g : Generation). is_of slot.server.0 g.0 event) (sym lived) ∙ done.its in
-      let becomes : Becomes old.asked new old = record { link = new.link; said = _; turn = _; made = heard.made } in
-      let at = work_on w slot' desk' (event ∷ []) old.generation serves (All-cons (OfLife slot.made) event [] (of_number event (finished_event d.setup (ShowsReason d desk') back event (own_of w) comes) ours is.last.number) (All-nil (OfLife slot.made)))
+      let becomes : Becomes old.asked new old = finish_becomes heard (ap is_acting is.turns ∙ acts) in
+      let at = work_on w slot' desk' (event ∷ []) old serves (All-cons (OfLife slot.made) event [] (of_number event (finished_event d.setup (ShowsReason d desk') back event (own_of w) comes) ours is.last.number) (All-nil (OfLife slot.made)))
       (calm_push w.desk desk' (record { stamp = done.stamp; event = event }) done.noted done.seat ends) is.at in
       let last = last_on w.name slot slot' old serves.server serves.made is.last in
       record {
@@ -436,19 +484,19 @@ module _ {L T : Type 0} {d : Domain} {shows : T → StarterShows} (w : ServerWor
         going = record {
           follows = subst (Follows d.setup d.clients (ShowsReason d desk') new) (sym {A = List Event} serves.steps.own)
               (follows_done d.setup d.clients (ShowsReason d desk') old new (own_of w) event back (tag_of old) ours heard comes (going_on serves.steps w.queue.0 (own_of w) old is.going).follows);
-          handed = subst (AtEach (IsHanded new.server.0 new.generation.0 new.asked (IsSentFor d w.queue.0 desk'))) (sym {A = List Event} serves.steps.own)
-              (finished_handed event (finished_event d.setup (ShowsReason d desk') back event (own_of w) comes), handed_still old.asked becomes (IsSentFor d w.queue.0 desk') (own_of w) (handed_led old.server.0 old.generation.0 d w.queue.0 w.desk desk' old.asked (own_of w) serves.steps.leads is.going.handed));
+          handed = subst (AtEach (IsHanded new.server.0 new.generation.0 (invokes_of new) (IsSentFor d w.queue.0 desk'))) (sym {A = List Event} serves.steps.own)
+              (finished_handed event (finished_event d.setup (ShowsReason d desk') back event (own_of w) comes), handed_still old.asked becomes (IsSentFor d w.queue.0 desk') (own_of w) (handed_led old.server.0 old.generation.0 d w.queue.0 w.desk desk' (invokes_of old) (own_of w) serves.steps.leads is.going.handed));
         };
         does = done.idle ∙ ap Idle lived ∙ ap (λ (l : LifeState). Idle l.generation) (sym heard.made);
-        turns = ap (λ (l : LifeState). l.turn) heard.made ∙ ap (λ (t : Turn). turn_after t (finish_frame (tag_of old) back).body) is.turns ∙ turns;
-        asked = ap (λ (l : LifeState). length l.asked) heard.made ∙ is.asked ∙ sym (ap (λ (l : LifeState). length (finishes_in l.said)) heard.made ∙ returned_push old.said (tag_of old) back) ∙ add_none (returned new);
+        turns = ap (λ (l : LifeState). l.turn) heard.made ∙ ap (λ (t : Turn). turn_after t (finish_frame (tag_of old) back).body) is.turns ∙ acting_after from (tag_of old) back acts ∙ turns;
+        asked = ap (λ (l : LifeState). length (invokes_of l)) heard.made ∙ is.asked ∙ sym (ap (λ (l : LifeState). length (finishes_in l.said)) heard.made ∙ returned_push old.said (tag_of old) back) ∙ add_none (returned new);
         room = is.room;
       }
     where
       add_none : (n : ℕ) → n ≡ n + 0
       add_none n = omega arith
 
-      finished_handed : (e : Event) → IsFinishing e → IsHanded new.server.0 new.generation.0 new.asked (IsSentFor d w.queue.0 desk') e (own_of w)
+      finished_handed : (e : Event) → IsFinishing e → IsHanded new.server.0 new.generation.0 (invokes_of new) (IsSentFor d w.queue.0 desk') e (own_of w)
       finished_handed (End e) its = tt
       finished_handed (Forward f) its = tt
       finished_handed _ its = absurd its
@@ -459,23 +507,23 @@ module _ {L T : Type 0} {d : Domain} {shows : T → StarterShows} (w : ServerWor
       of_number (Forward f) its ours number = its_generation f.server.0 f.generation.0 old.server.0 old.generation.0 ours ∙ number
       of_number _ its ours number = absurd its
 
-  pub returned_in : (new old : LifeState) (request : RequestId) (value : Rval) (code : ℤ) (payload : Data) (conns : List RequestId) (closing : Closing) (slot' : ServerSlot) (desk' : Desk) → Heard (return_frame (tag_of old) value code payload) new old → IsIn d shows (Busy old.generation request) Serving 1 old w
+  pub returned_in : (new old : LifeState) (request : RequestId) (from : Turn) (value : Rval) (code : ℤ) (payload : Data) (conns : List RequestId) (closing : Closing) (slot' : ServerSlot) (desk' : Desk) → Heard (return_frame (tag_of old) value code payload) new old → is_acting from ≡ true → IsIn d shows (Busy old.generation request) from 1 old w
       → conns ≡ [] → Leads d w.desk desk' → desk'.caller.seat ≡ w.desk.caller.seat → IsServing d w.queue.0 slot' desk' → Finishes (return_by d.setup conns value code payload) closing slot' w.served.slot desk'.caller.work w.desk.caller.work
       → IsIn d shows (Idle new.generation) (turn_behind value) 0 new (at_desk w slot' desk') × (is_exit value ≡ true → slot'.last ≡ lasts.Badly) × ToldBefore desk'
-  returned_in new old request value code payload conns closing slot' desk' heard is none leads seat serving finishes =
+  returned_in new old request from value code payload conns closing slot' desk' heard acts is none leads seat serving finishes =
       let ended = return_done w value code payload conns closing slot' desk' leads seat is.at.serving serving finishes in
       let back : Finish = Returns (record { value = value; code = code; payload = payload }) in
       let ends : ends_by (End ended.0) false ≡ false = ap (λ (o : Outcome). is_lost o || false) ended.2 ∙ keeps_life d.setup conns value code payload in (
-        finished_in new old request back (turn_behind value) (End ended.0) slot' desk' heard is refl (ended.2 ∙ return_is d.setup conns value code payload none) ends ended.1,
+        finished_in new old request from back (turn_behind value) (End ended.0) slot' desk' heard acts is refl (ended.2 ∙ return_is d.setup conns value code payload none) ends ended.1,
         λ exits. ap (λ (s : ServerSlot). s.last) finishes.left ∙ ap (λ (s : ServerSlot). s.last) finishes.ends.left ∙ exits_badly d.setup conns value code payload exits,
         calm_before w.desk desk' (record { stamp = ended.1.stamp; event = End ended.0 }) ended.1.noted ended.1.seat ends is.at.told,
       )
 
   -- the request went on, or its forward failed
-  pub forwarded_in : (new old : LifeState) (request : RequestId) (forward : Onward) (closing : Option Closing) (slot' : ServerSlot) (desk' : Desk) → Heard (forward_frame (tag_of old) forward.service forward.payload) new old → IsIn d shows (Busy old.generation request) Serving 1 old w
+  pub forwarded_in : (new old : LifeState) (request : RequestId) (from : Turn) (forward : Onward) (closing : Option Closing) (slot' : ServerSlot) (desk' : Desk) → Heard (forward_frame (tag_of old) forward.service forward.payload) new old → is_acting from ≡ true → IsIn d shows (Busy old.generation request) from 1 old w
       → Passes d w.queue.0 forward.service forward.payload closing w.served.slot slot' w.desk desk' → IsIn d shows (Idle new.generation) AwaitsNext 0 new (at_desk w slot' desk')
-  forwarded_in new old request forward closing slot' desk' heard is passes =
-      finished_in new old request (Forwards forward) AwaitsNext passes.event slot' desk' heard is refl passes.by (keeps_on (ShowsReason d desk') forward.service forward.payload passes.event (own_of w) passes.by) passes.done
+  forwarded_in new old request from forward closing slot' desk' heard acts is passes =
+      finished_in new old request from (Forwards forward) AwaitsNext passes.event slot' desk' heard acts is refl passes.by (keeps_on (ShowsReason d desk') forward.service forward.payload passes.event (own_of w) passes.by) passes.done
 
   -- and may have to be cut then
   pub heard_hands : (new old : LifeState) (f : Frame) {doing : Doing} {turn : Turn} {n : ℕ} (slot' : ServerSlot) (desk' : Desk) → Heard f new old → IsIn d shows doing turn n old w → Steps d [] w.desk desk' → slot'.server ≡ w.served.slot.server → HandsOn d w.queue.0 slot'.server.0 desk' new
@@ -504,7 +552,7 @@ module _ {L T : Type 0} {d : Domain} {shows : T → StarterShows} (w : ServerWor
       record {
         at = stops_idle w over (at_still life.asked becomes is.at) (last_still life.asked becomes is.last) ended
             (handed_still life.asked becomes (IsSentFor d w.queue.0 w.desk) (own_of w) is.going.handed) kept lives starter slot' desk' leads seat serving causes.Exit stamp (sym exits.cause) (ap life_in is.does ∙ ap (λ (l : LifeState). l.generation) (sym exits.life))
-            (settles_exited d.setup d.clients life over (own_of w) exits is.turns is.going.follows) (λ idle. cc (idle, turn)) (told_last ⊥ desk' (leads_behind w.desk desk' leads seat untold)) stopped;
+            (settles_exited d.setup d.clients life over (own_of w) exits is.turns is.going.follows) (λ idle. cc (idle, turn)) (λ finishing. cc (finishing, turn)) (told_last ⊥ desk' (leads_behind w.desk desk' leads seat untold)) stopped;
         off = ap (λ (s : ServerSlot). s.doing) stopped.left;
         up = ap (λ (s : ServerSlot). s.shut) stopped.left;
       }
@@ -527,12 +575,13 @@ module _ {L T : Type 0} {d : Domain} {shows : T → StarterShows} (w : ServerWor
       → Leads d w.desk desk' → desk'.caller.seat ≡ w.desk.caller.seat → IsServing d w.queue.0 slot' desk' → SawAtQueue d w.queue.0 w.desk (IsShut d.setup w.queue.0) → Stops causes.Shutdown stamp slot' w.served.slot desk'.caller.work w.desk.caller.work → HasEnded d shows None (at_kept w kept slot' desk')
   shuts_down life over kept slot' desk' stamp is shut ended why lives starter leads seat serving saw stopped =
       let becomes : Becomes life.asked over.life life = link_becomes shut.life in
+      let waited : over.life.turn ≡ AwaitsInvoke = ap (λ (l : LifeState). l.turn) shut.life ∙ is.turns in
       let now = at_still life.asked becomes is.at in
       let last = last_still life.asked becomes is.last in
       let handed = handed_still life.asked becomes (IsSentFor d w.queue.0 w.desk) (own_of w) is.going.handed in
       let told = stop_told w over now last ended handed kept lives starter slot' desk' leads seat serving causes.Shutdown stamp refl stopped in
       let at = stops_idle w over now last ended handed kept lives starter slot' desk' leads seat serving causes.Shutdown stamp why
-      (ap life_in is.does ∙ ap (λ (l : LifeState). l.generation) (sym shut.life)) (settles_shut d.setup d.clients life over (own_of w) shut is.turns is.going.follows) (λ idle. saw) (told_last ⊥ desk' told) stopped in
+      (ap life_in is.does ∙ ap (λ (l : LifeState). l.generation) (sym shut.life)) (settles_shut d.setup d.clients life over (own_of w) shut is.turns is.going.follows) (λ idle. saw) (λ finishing. cc (finishing, waited)) (told_last ⊥ desk' told) stopped in
       let server = ap (λ (s : ServerSlot). s.server) stopped.left in
       let off : slot'.doing ≡ Off = ap (λ (s : ServerSlot). s.doing) stopped.left in
       ends_done (at_kept w kept slot' desk') at (off_hand slot'.doing off serving.stands.hand) (inl (shut_read serving (ap (λ (s : ServerSlot). s.shut) stopped.left), queue_stays d w.desk desk' leads w.queue.0 (IsShut d.setup w.queue.0) saw))

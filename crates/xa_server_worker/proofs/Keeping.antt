@@ -195,29 +195,39 @@ no_call caller g _ its = absurd its
 pub no_calls : (caller g : ℕ) (more : List Event) → All (OfLife g) more → All (λ (e : Event). is_call_of caller e ≡ false) more
 no_calls caller g more its = All-weaker (OfLife g) (λ (e : Event). is_call_of caller e ≡ false) (no_call caller g) more its
 
--- what the worker noted since, beside the lives of its server but the one with that number: it is no event of theirs, no start and no tick, and tells
--- nothing in them
-pub record Adds (d : Domain) (server made : ℕ) (more : List Event) (old new : Desk) : Type 0 where
+-- what the worker noted since, beside the lives of its server but the one with that number: it is no event of theirs, and tells nothing in them
+pub record Spares (d : Domain) (server made : ℕ) (more : List Event) (old new : Desk) : Type 0 where
   pub steps : Steps d more old new
   pub number : old.caller.work.clients + server ≡ old.caller.work.id.0
+  pub others : (g : ℕ) → g ≢ made → All (λ (e : Event). is_of server g e ≡ false) more
+  pub due : (g : ℕ) → g ≢ made → due_in_life d.clients server g (theirs new.caller.work) ≡ due_in_life d.clients server g (theirs old.caller.work)
+
+-- and no start, and no tick
+pub record Adds (d : Domain) (server made : ℕ) (more : List Event) (old new : Desk) : Type 0 where
+  pub spares : Spares d server made more old new
   pub starts : All (λ (e : Event). generation_in server e ≡ None) more
   pub failures : All (λ (e : Event). fails_start server e ≡ false) more
   pub ticks : All (λ (e : Event). tick_in old.caller.work.clients old.caller.work.id.0 e ≡ None) more
-  pub others : (g : ℕ) → g ≢ made → All (λ (e : Event). is_of server g e ≡ false) more
-  pub due : (g : ℕ) → g ≢ made → due_in_life d.clients server g (theirs new.caller.work) ≡ due_in_life d.clients server g (theirs old.caller.work)
+
+-- so it is with what is of no life of the server, and of no call
+pub spares_by : {d : Domain} {old new : Desk} {more : List Event} → Steps d more old new → (server made : ℕ) → old.caller.work.clients + server ≡ old.caller.work.id.0 → ((g : ℕ) → g ≢ made → All (λ (e : Event). is_of server g e ≡ false) more)
+    → All (λ (e : Event). is_call_of (caller_of d.clients server) e ≡ false) more → Spares d server made more old new
+spares_by {d} {old} {new} {more} steps server made number others idle = record {
+  steps = steps;
+  number = number;
+  others = others;
+  due = λ g apart. ap (due_in_life d.clients server g) steps.own ∙ due_beside d.clients server g more (theirs old.caller.work) (others g apart) idle;
+}
 
 -- the events of that life are so
 pub life_adds : {d : Domain} {old new : Desk} {more : List Event} → Steps d more old new → (server made : ℕ) → old.caller.work.clients + server ≡ old.caller.work.id.0 → All (OfLife made) more → Adds d server made more old new
 life_adds {d} {old} {new} {more} steps server made number its =
     let others : (g : ℕ) → g ≢ made → All (λ (e : Event). is_of server g e ≡ false) more = λ g apart. All-weaker (OfLife made) (λ (e : Event). is_of server g e ≡ false) (other_life server made g apart) more its in
     record {
-      steps = steps;
-      number = number;
+      spares = spares_by steps server made number others (no_calls (caller_of d.clients server) made more its);
       starts = All-weaker (OfLife made) (λ (e : Event). generation_in server e ≡ None) (no_start server made) more its;
       failures = All-weaker (OfLife made) (λ (e : Event). fails_start server e ≡ false) (no_failure server made) more its;
       ticks = All-weaker (OfLife made) (λ (e : Event). tick_in old.caller.work.clients old.caller.work.id.0 e ≡ None) (no_tick old.caller.work.clients old.caller.work.id.0 made) more its;
-      others = others;
-      due = λ g apart. ap (due_in_life d.clients server g) steps.own ∙ due_beside d.clients server g more (theirs old.caller.work) (others g apart) (no_calls (caller_of d.clients server) made more its);
     }
 
 -- and so are those of a new call that was made in it
@@ -243,14 +253,16 @@ pub call_adds : {d : Domain} {old new : Desk} {more : List Event} → Steps d mo
     → AreCall (caller_of d.clients server) n more → count (is_op (caller_of d.clients server) n) (theirs old.caller.work) ≡ 0 → doing server (theirs old.caller.work) ≡ Busy generation request → generation.0 ≡ made
     → All (λ (e : Event). tick_in old.caller.work.clients old.caller.work.id.0 e ≡ None) more → Adds d server made more old new
 call_adds {d} {old} {new} {more} steps server made n generation request number are fresh busy its ticks = record {
-  steps = steps;
-  number = number;
+  spares = record {
+    steps = steps;
+    number = number;
+    others = λ g apart. each_call (caller_of d.clients server) n (λ (e : Event). is_of server g e ≡ false) (call_of_none (caller_of d.clients server) n server g) more are;
+    due = λ g apart. ap (due_in_life d.clients server g) steps.own
+        ∙ due_elsewhere d.clients server g n more (theirs old.caller.work) are fresh (not_busy g made (doing server (theirs old.caller.work)) generation request busy its apart);
+  };
   starts = each_call (caller_of d.clients server) n (λ (e : Event). generation_in server e ≡ None) (call_no_start (caller_of d.clients server) n server) more are;
   failures = each_call (caller_of d.clients server) n (λ (e : Event). fails_start server e ≡ false) (call_no_failure (caller_of d.clients server) n server) more are;
   ticks = ticks;
-  others = λ g apart. each_call (caller_of d.clients server) n (λ (e : Event). is_of server g e ≡ false) (call_of_none (caller_of d.clients server) n server g) more are;
-  due = λ g apart. ap (due_in_life d.clients server g) steps.own
-      ∙ due_elsewhere d.clients server g n more (theirs old.caller.work) are fresh (not_busy g made (doing server (theirs old.caller.work)) generation request busy its apart);
 }
 
 module _ {d : Domain} {old new : Desk} {more : List Event} (steps : Steps d more old new) where
@@ -288,25 +300,25 @@ spent_more clients server g (e ∷ more) own none each = (
   spent_more clients server g more own (All-tail (λ (x : Event). is_of server g x ≡ false) e more none) each,
 )
 
-module _ {d : Domain} {old new : Desk} {more : List Event} {server made : ℕ} (adds : Adds d server made more old new) where
+module _ {d : Domain} {old new : Desk} {more : List Event} {server made : ℕ} (spares : Spares d server made more old new) where
   abbrev steps : Steps d more old new
-  steps = adds.steps
+  steps = spares.steps
 
   -- a life that ended stays so
   pub lived_one : (name : List ℕ) (queue : ℕ) (over : Ending) → over.life.generation.0 ≢ made → IsLived d name queue server old over → IsLived d name queue server new over
   lived_one name queue over apart is =
       let g : ℕ = over.life.generation.0 in
-      let none = adds.others g apart in
+      let none = spares.others g apart in
       let ours : All (λ (e : Event). is_of over.life.server.0 g e ≡ false) more = subst (λ s. All (λ (e : Event). is_of s g e ≡ false) more) (sym is.its) none in
       let due : due_in_life d.clients over.life.server.0 g (more ++ theirs old.caller.work) ≡ due_in_life d.clients over.life.server.0 g (theirs old.caller.work) =
-      ap (due_in_life d.clients over.life.server.0 g) (sym steps.own) ∙ subst (λ s. due_in_life d.clients s g (theirs new.caller.work) ≡ due_in_life d.clients s g (theirs old.caller.work)) (sym is.its) (adds.due g apart) in
+      ap (due_in_life d.clients over.life.server.0 g) (sym steps.own) ∙ subst (λ s. due_in_life d.clients s g (theirs new.caller.work) ≡ due_in_life d.clients s g (theirs old.caller.work)) (sym is.its) (spares.due g apart) in
       record {
         over_is = is.over_is;
         its = is.its;
         named = is.named;
         stopped = subst (HasStopped d.setup d.clients (ShowsReason d new) over) (sym {A = List Event} steps.own)
             (stopped_beside d.setup d.clients over more (theirs old.caller.work) ours due (stopped_led d.setup (ShowsReason d old) (ShowsReason d new) (reason_led d old new steps.leads) d.clients over (theirs old.caller.work) is.stopped));
-        shut = λ turn. shut_on steps queue over (ap (λ s. old.caller.work.clients + s) is.its ∙ adds.number) ours (is.shut turn);
+        shut = λ turn. shut_on steps queue over (ap (λ s. old.caller.work.clients + s) is.its ∙ spares.number) ours (is.shut turn);
         spent = λ turn. subst (AtEach (StopsSpent d.clients over.life.server.0 g)) (sym {A = List Event} steps.own) (spent_more d.clients over.life.server.0 g more (theirs old.caller.work) ours (is.spent turn));
         handed = subst (AtEach (IsHanded server g (invokes_of over.life) (IsSentFor d queue new))) (sym {A = List Event} steps.own)
             (handed_more server g (invokes_of over.life) (IsSentFor d queue new) more (theirs old.caller.work) none (handed_led server g d queue old new (invokes_of over.life) (theirs old.caller.work) steps.leads is.handed));
@@ -323,19 +335,23 @@ module _ {d : Domain} {old new : Desk} {more : List Event} {server made : ℕ} (
   unborn_more : (g : ℕ) → g ≢ made → All (λ (e : Event). is_of server g e ≡ false) (theirs old.caller.work) → All (λ (e : Event). is_of server g e ≡ false) (theirs new.caller.work)
   unborn_more g apart unborn =
       let P : Event → Type 0 = λ e. is_of server g e ≡ false in
-      subst (All P) (sym {A = List Event} steps.own) (All-append P more (theirs old.caller.work) (adds.others g apart) unborn)
+      subst (All P) (sym {A = List Event} steps.own) (All-append P more (theirs old.caller.work) (spares.others g apart) unborn)
+
+module _ {d : Domain} {old new : Desk} {more : List Event} {server made : ℕ} (adds : Adds d server made more old new) where
+  abbrev its_steps : Steps d more old new
+  its_steps = adds.spares.steps
 
   pub lives_same : lives_in server (theirs new.caller.work) ≡ lives_in server (theirs old.caller.work)
-  lives_same = ap (lives_in server) steps.own ∙ ap reverse (skip_map (generation_in server) more (theirs old.caller.work) adds.starts)
+  lives_same = ap (lives_in server) its_steps.own ∙ ap reverse (skip_map (generation_in server) more (theirs old.caller.work) adds.starts)
 
   pub failed_same : failed_starts server (theirs new.caller.work) ≡ failed_starts server (theirs old.caller.work)
-  failed_same = ap (failed_starts server) steps.own ∙ skip_count (fails_start server) more (theirs old.caller.work) adds.failures
+  failed_same = ap (failed_starts server) its_steps.own ∙ skip_count (fails_start server) more (theirs old.caller.work) adds.failures
 
   -- no tick was read
   pub floor_same : tick_floor new.caller.work.clients new.caller.work.id.0 (theirs new.caller.work) ≡ tick_floor old.caller.work.clients old.caller.work.id.0 (theirs old.caller.work)
   unfolding ticks
   floor_same =
-      ap (λ n. tick_floor n new.caller.work.id.0 (theirs new.caller.work)) steps.clients ∙ ap (λ i. tick_floor old.caller.work.clients i.0 (theirs new.caller.work)) steps.id ∙ ap (tick_floor old.caller.work.clients old.caller.work.id.0) steps.own
+      ap (λ n. tick_floor n new.caller.work.id.0 (theirs new.caller.work)) its_steps.clients ∙ ap (λ i. tick_floor old.caller.work.clients i.0 (theirs new.caller.work)) its_steps.id ∙ ap (tick_floor old.caller.work.clients old.caller.work.id.0) its_steps.own
       ∙ ap (greatest 0) (skip_map (tick_in old.caller.work.clients old.caller.work.id.0) more (theirs old.caller.work) adds.ticks)
 
   -- ---- with the life that goes on
@@ -344,10 +360,10 @@ module _ {d : Domain} {old new : Desk} {more : List Event} {server made : ℕ} (
   pub lives_on : (name : List ℕ) (queue : ℕ) (lives : List Ending) (g : Generation) → HasLived d name queue server made old lives (g ∷ []) → HasLived d name queue server made new lives (g ∷ [])
   lives_on name queue lives g is = record {
     are = is.are ∙ sym lives_same;
-    each = lived_all name queue lives (All-weaker (λ (x : Ending). x.life.generation.0 + 1 ≤ made) (λ (x : Ending). x.life.generation.0 ≢ made) (λ x low same. absurd (omega (arith, low, same))) lives is.earlier) is.each;
+    each = lived_all adds.spares name queue lives (All-weaker (λ (x : Ending). x.life.generation.0 + 1 ≤ made) (λ (x : Ending). x.life.generation.0 ≢ made) (λ x low same. absurd (omega (arith, low, same))) lives is.earlier) is.each;
     earlier = is.earlier;
-    unborn = λ h above. unborn_more h (λ same. absurd (omega (arith, same, above))) (is.unborn h above);
-    untold = λ h above. adds.due h (λ same. absurd (omega (arith, same, above))) ∙ is.untold h above;
+    unborn = λ h above. unborn_more adds.spares h (λ same. absurd (omega (arith, same, above))) (is.unborn h above);
+    untold = λ h above. adds.spares.due h (λ same. absurd (omega (arith, same, above))) ∙ is.untold h above;
   }
 
   -- and ended, as it is kept
@@ -367,10 +383,10 @@ module _ {d : Domain} {old new : Desk} {more : List Event} {server made : ℕ} (
 pub lives_off : {d : Domain} {old new : Desk} {more : List Event} {server : ℕ} → ((g : ℕ) → Adds d server g more old new) → (name : List ℕ) (queue made : ℕ) (lives : List Ending) → HasLived d name queue server made old lives [] → HasLived d name queue server made new lives []
 lives_off {d} {old} {new} {more} {server} adds name queue made lives is = record {
   are = is.are ∙ sym (lives_same (adds 0));
-  each = lived_all (adds (made + 1)) name queue lives (All-weaker (λ (x : Ending). x.life.generation.0 + 0 ≤ made) (λ (x : Ending). x.life.generation.0 ≢ made + 1) (λ x low same. absurd (omega (arith, low, same))) lives is.earlier) is.each;
+  each = lived_all (adds (made + 1)).spares name queue lives (All-weaker (λ (x : Ending). x.life.generation.0 + 0 ≤ made) (λ (x : Ending). x.life.generation.0 ≢ made + 1) (λ x low same. absurd (omega (arith, low, same))) lives is.earlier) is.each;
   earlier = is.earlier;
-  unborn = λ h above. unborn_more (adds made) h (λ same. absurd (omega (arith, same, above))) (is.unborn h above);
-  untold = λ h above. (adds made).due h (λ same. absurd (omega (arith, same, above))) ∙ is.untold h above;
+  unborn = λ h above. unborn_more (adds made).spares h (λ same. absurd (omega (arith, same, above))) (is.unborn h above);
+  untold = λ h above. (adds made).spares.due h (λ same. absurd (omega (arith, same, above))) ∙ is.untold h above;
 }
 
 -- ---- its calls

@@ -150,6 +150,14 @@ made_still {d} {old} {new} steps ops is =
       fits = so;
     }
 
+-- with no life that goes on these are all
+pub made_all : {d : Domain} {desk : Desk} (ops : List Op) → HasCalled d (ops ++ []) desk → HasMadeCalls d ops desk
+made_all {d} {desk} ops is = record {
+  last = is.last ∙ ap length (append-nil ops);
+  over = is.over;
+  fits = subst (λ (all : List Op). FitsCalls d all desk) (append-nil (ops ++ []) ∙ append-nil ops) (is.fits []);
+}
+
 -- with nothing out to be put on a queue it may be given up
 pub idle_out : (desk : Desk) → desk.caller.phase ≡ Idle → IsOut desk
 idle_out desk idle prepared = subst IsPrepared idle prepared
@@ -317,11 +325,7 @@ module _ {L T : Type 0} {d : Domain} {shows : T → StarterShows} where
           told = at.told;
           none_cut = λ whole. ap cut_in at.cut;
           lived = λ whole. at.lived.each;
-          called = λ whole. record {
-            last = at.called.last ∙ ap length (append-nil (calls_of_all w.served.lives.items));
-            over = at.called.over;
-            fits = subst (λ (ops : List Op). FitsCalls d ops w.desk) (append-nil (calls_of_all w.served.lives.items ++ []) ∙ append-nil (calls_of_all w.served.lives.items)) (at.called.fits []);
-          };
+          called = λ whole. made_all (calls_of_all w.served.lives.items) at.called;
           started = λ whole. started;
           done = λ whole. done;
         };
@@ -341,7 +345,7 @@ module _ {L T : Type 0} {d : Domain} {shows : T → StarterShows} where
         so_far = subst (λ (own : List Event). HasStartedSoFar w.name (length (starts s own)) (failed_starts s own) (shows w.served.starter)) (sym {A = List Event} steps.own) shown.so_far;
         told = tells_last w.desk desk' tells shown.told;
         none_cut = shown.none_cut;
-        lived = λ whole. All-weaker (IsLived d w.name w.queue.0 s w.desk) (IsLived d w.name w.queue.0 s desk') (λ over is. lived_one (life_adds {more = []} steps s (over.life.generation.0 + 1) ended.number (All-nil (OfLife (over.life.generation.0 + 1)))) w.name w.queue.0 over (λ same. absurd (omega (arith, same))) is) w.served.lives.items (shown.lived whole);
+        lived = λ whole. All-weaker (IsLived d w.name w.queue.0 s w.desk) (IsLived d w.name w.queue.0 s desk') (λ over is. lived_one (life_adds {more = []} steps s (over.life.generation.0 + 1) ended.number (All-nil (OfLife (over.life.generation.0 + 1)))).spares w.name w.queue.0 over (λ same. absurd (omega (arith, same))) is) w.served.lives.items (shown.lived whole);
         called = λ whole. made_still steps _ (shown.called whole);
         started = λ whole. subst (λ (own : List Event). HasStarted w.name (length (starts s own)) (failed_starts s own) (shows w.served.starter)) (sym {A = List Event} steps.own) (shown.started whole);
         done = λ whole. done_on s steps (shown.done whole);

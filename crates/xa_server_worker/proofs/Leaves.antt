@@ -30,7 +30,7 @@ use Rattle.xa_desk.specs.xa_held.Kept.{IsRight}
 use Rattle.xa_desk.specs.Serving.{IsServing, Sees, LeavesAs, OfDomain, Sweeps, IsSwept}
 use Rattle.xa_server_worker.specs.declared.working.ServerWorker.{ServerWorker}
 use Rattle.xa_desk.specs.Halting.{IsStopAt}
-use Rattle.xa_server_worker.specs.Lives.{failed_starts, HasStarted, IsDone, HandsOn, IsCut, ServerShows}
+use Rattle.xa_server_worker.specs.Lives.{failed_starts, calls_of_all, HasStarted, IsDone, HandsOn, IsCut, ServerShows}
 use Rattle.xa_server_worker.specs.Working.{cut_in}
 use Rattle.xa_server_worker.specs.Steps.{Retires, RetiresAs, OfDomainAt}
 use Rattle.xa_server_worker.specs.Standing.{IsOff, HasEnded, why_of}
@@ -38,8 +38,8 @@ use Rattle.xa_desk.proofs.Leading.{leads_trans}
 use Rattle.xa_server_worker.specs.Behind.{TellsLast, ToldBefore}
 use Rattle.xa_server_worker.proofs.Behind.{still_behind, leads_behind, push_behind, told_last}
 use Rattle.xa_server_worker.proofs.Stepping.{off_steps, seen_steps, steps_trans, domain_steps}
-use Rattle.xa_server_worker.proofs.Keeping.{OfLife, lives_off, failed_same, skip_map}
-use Rattle.xa_server_worker.proofs.Lasting.{at_desk, number_of, starts_count, started_on, lives_hand, none_cut, none_off}
+use Rattle.xa_server_worker.proofs.Keeping.{OfLife, Adds, life_adds, no_calls, called_still, lives_off, failed_same, skip_map}
+use Rattle.xa_server_worker.proofs.Lasting.{at_desk, number_of, starts_count, started_on, lives_hand, none_cut, none_off, made_all, idle_out}
 
 -- a server's worker isn't the domain
 some_number : (n : ℕ) (servers : List ServerSetup) (P : ServerSetup → Type 0) → IsSomeAnd (numbered n servers) P → 0 < n
@@ -147,9 +147,10 @@ module _ {L T : Type 0} {d : Domain} {shows : T → StarterShows} where
       let its : (g : ℕ) → All (OfLife g) retires.more = λ g. All-weaker (λ (e : Event). e ≡ Gone slot.server) (OfLife g) (of_gone slot g) retires.more retires.gone in
       let server : slot'.server ≡ slot.server = ap (λ (x : ServerSlot). x.server) retires.slot_is in
       let hand : slot'.hand ≡ None = ap (λ (x : ServerSlot). x.hand) retires.slot_is ∙ off_hand slot.doing off.off off.at.serving.stands.hand in
-      let lived = lives_off steps w.name w.queue.0 s slot.made w.served.lives.items (number_of off.at.serving) its off.at.lived in
+      let adds : (g : ℕ) → Adds d s g retires.more w.desk desk' = λ g. life_adds steps s g (number_of off.at.serving) (its g) in
+      let lived = lives_off adds w.name w.queue.0 slot.made w.served.lives.items off.at.lived in
       let count : length (starts s (theirs desk'.caller.work)) ≡ slot.made = ap (λ (l : List Event). length (starts s l)) steps.own ∙ ap length (no_more_starts s slot retires.more own retires.gone) ∙ starts_count off.at.serving in
-      let failed : failed_starts s (theirs desk'.caller.work) ≡ failed_starts s own = ap (failed_starts s) steps.own ∙ failed_same s 0 retires.more own (its 0) in
+      let failed : failed_starts s (theirs desk'.caller.work) ≡ failed_starts s own = failed_same (adds 0) in
       let started : HasStarted w.name (length (starts s (theirs desk'.caller.work))) (failed_starts s (theirs desk'.caller.work)) (shows w.served.starter) = started_on count failed refl off.at.started in
       let shown : ServerShows d w.name w.queue.0 s desk' w.served.lives.items (cut_in w.cut) (shows w.served.starter) (why_of r ≡ None) = record {
         lives_are = ap (λ (o : Option LifeState). map (λ over. over.life.generation) w.served.lives.items ++ map (λ (life : LifeState). life.generation) (cut_in o)) off.at.cut ∙ lived.are;
@@ -159,6 +160,7 @@ module _ {L T : Type 0} {d : Domain} {shows : T → StarterShows} where
         told = retires.told told;
         none_cut = λ whole. ap cut_in off.at.cut;
         lived = λ whole. lived.each;
+        called = λ whole. made_all (calls_of_all w.served.lives.items) (called_still steps _ (no_calls w.desk.caller.work.id.0 0 retires.more (its 0)) off.at.called);
         started = λ whole. started;
         done = done_by r result;
       } in
@@ -166,7 +168,8 @@ module _ {L T : Type 0} {d : Domain} {shows : T → StarterShows} where
         is = steps.leads.desk;
         number = ap (λ n. n + slot'.server.0) steps.clients ∙ ap (λ x. w.desk.caller.work.clients + x.0) server ∙ number_of off.at.serving ∙ ap (λ i. i.0) (sym steps.id);
         named_so = off.at.named_so;
-        idle = retires.idle;
+        idle = λ whole. retires.idle;
+        out = idle_out desk' retires.idle;
         hand = subst (λ h. IfSome h (IsRight d.cells)) (sym hand) tt;
         shown = subst (λ (x : ℕ). ServerShows d w.name w.queue.0 x desk' w.served.lives.items (cut_in w.cut) (shows w.served.starter) (why_of r ≡ None)) (ap (λ x. x.0) (sym server)) shown;
         halts = halts_by r result;

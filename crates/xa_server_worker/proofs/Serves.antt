@@ -1,24 +1,27 @@
 -- All of a server's worker's work: how it begins, and what it leaves.
-use Rattle.std.proofs.Common.{◌≡◌, ◌≤◌, ℕ, ◌+◌, false, true, List, [], Option, None, refl, sym, ◌∙◌, ap, subst}
+use Rattle.std.proofs.Common.{◌≡◌, ◌≤◌, ℕ, ◌+◌, false, true, List, [], ◌++◌, Option, None, refl, sym, ◌∙◌, ap, subst}
 use Rattle.std.specs.List.{All}
 use Rattle.std.proofs.lemmas.List.Elements.{All-nil}
 use Rattle.xa_desk.specs.xa_events.declared.event.Event.{Event}
-use Rattle.xa_desk.specs.xa_events.Caller.{ticks, tick_floor}
+use Rattle.xa_desk.specs.xa_events.Caller.{ticks, tick_floor, newest_call, last_op, just_accepted}
 use Rattle.xa_desk.specs.xa_events.Local.{worker_events}
 use Rattle.xa_desk.specs.xa_stamp.declared.home.Stamped.{Stamped}
 use Rattle.xa_desk.specs.xa_worker.Seen.{past_in}
 use Rattle.xa_desk.specs.xa_restart.Rule.{RestartState, may_start_by}
 use Rattle.xa_desk.specs.xa_worker.Work.{theirs}
 use Rattle.xa_desk.specs.xa_pipe.Standing.{Ending}
-use Rattle.xa_desk.specs.xa_pipe.Following.{is_of}
+use Rattle.xa_desk.specs.xa_pipe.Following.{is_of, due_in_life}
 use Rattle.xa_desk.specs.xa_server.declared.slot.ServerSlot.{ServerSlot}
 use Rattle.xa_desk.specs.xa_server.Served.{StarterShows}
 use Rattle.xa_desk.specs.declared.domain.Domain.{Domain}
+use Rattle.xa_desk.specs.declared.desk.Desk.{Desk}
+use Rattle.xa_desk.specs.Whole.{entries_of}
+use Rattle.xa_desk.specs.xa_worker.Going.{FitEach}
 use Rattle.xa_desk.specs.declared.stopped.Stopped.{Stopped}
 use Rattle.xa_server_worker.specs.declared.working.ServerWorker.{ServerWorker}
-use Rattle.xa_server_worker.specs.Lives.{failed_starts, lives_in, IsLived, ServerShows}
+use Rattle.xa_server_worker.specs.Lives.{failed_starts, lives_in, calls_of_all, IsLived, ServerShows}
 use Rattle.xa_server_worker.specs.Working.{MayServe, HasServed, cut_in}
-use Rattle.xa_server_worker.specs.Standing.{Goes, HasLived, MayGoOn, HasEnded}
+use Rattle.xa_server_worker.specs.Standing.{Goes, HasLived, HasCalled, MayGoOn, HasEnded}
 use Rattle.xa_server_worker.proofs.Behind.{first_told}
 use Rattle.xa_server_worker.proofs.Lasting.{started_on}
 
@@ -31,6 +34,24 @@ first_may r none = ap (λ (s : List ℕ). may_start_by (record r { starts = s })
 
 none_noted : (clients caller : ℕ) (own : List Stamped) → own ≡ [] → worker_events clients caller (past_in own) ≡ []
 none_noted clients caller own none = ap (λ (l : List Stamped). worker_events clients caller (past_in l)) none
+
+-- and made no call
+none_called : {d : Domain} (desk : Desk) → desk.caller.work.own ≡ [] → HasCalled d [] desk
+none_called {d} desk none =
+    let own : theirs desk.caller.work ≡ [] = none_noted desk.caller.work.clients desk.caller.work.id.0 desk.caller.work.own none in
+    record {
+      last = no_calls_made desk.caller.work.id.0 (theirs desk.caller.work) own;
+      over = none_accepted desk.caller.work.id.0 (theirs desk.caller.work) own;
+      fits = λ more whole on. subst (FitEach d.setup d.clients (entries_of whole) desk.caller.work.id.0 more) (sym none) tt;
+    }
+  where
+    no_calls_made : (caller : ℕ) (own : List Event) → own ≡ [] → last_op caller own ≡ 0
+    unfolding newest_call
+    no_calls_made caller own is = ap (last_op caller) is
+
+    none_accepted : (caller : ℕ) (own : List Event) → own ≡ [] → just_accepted caller own ≡ None
+    unfolding newest_call
+    none_accepted caller own is = ap (just_accepted caller) is
 
 -- why it stopped is noted
 pub goes_stopped : {L T : Type 0} {d : Domain} (old w : ServerWorker L T) (why : Option Stopped) → Goes d old w → Goes d old (record w { stopped = why })
@@ -49,6 +70,7 @@ module _ {L T : Type 0} {d : Domain} {shows : T → StarterShows} where
         each = All-nil (IsLived d w.name w.queue.0 s w.desk);
         earlier = All-nil (λ (over : Ending). over.life.generation.0 + 0 ≤ w.served.slot.made);
         unborn = λ g above. subst (All (λ (e : Event). is_of s g e ≡ false)) (sym {A = List Event} none) (All-nil (λ (e : Event). is_of s g e ≡ false));
+        untold = λ g above. ap (due_in_life d.clients s g) none;
       } in
       record {
         off = record {
@@ -58,6 +80,7 @@ module _ {L T : Type 0} {d : Domain} {shows : T → StarterShows} where
             named_so = may.name_is;
             started = started_on made (ap (failed_starts s) none) refl may.unasked;
             lived = subst (λ (l : List Ending). HasLived d w.name w.queue.0 s w.served.slot.made w.desk l []) (sym {A = List Ending} may.lives) lived;
+            called = subst (λ (l : List Ending). HasCalled d (calls_of_all l ++ []) w.desk) (sym {A = List Ending} may.lives) (none_called w.desk may.own);
             floor = first_floor w.desk.caller.work.clients w.desk.caller.work.id.0 own none;
             left = ap (λ (x : ServerSlot). x.gone) may.fresh;
             cut = may.cut;
@@ -76,6 +99,7 @@ module _ {L T : Type 0} {d : Domain} {shows : T → StarterShows} where
     id = goes.id;
     clients = goes.clients;
     idle = ended.idle;
+    out = ended.out;
     hand = hand;
     counted = counted;
     server = goes.server;

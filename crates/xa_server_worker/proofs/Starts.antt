@@ -1,16 +1,18 @@
 -- A server is started.
 use Rattle.std.proofs.Common.{◌≡◌, ◌<◌, ◌≤◌, ◌⊎◌, ℕ, ◌+◌, ◌==◌, Bool, true, false, cond, List, [], ◌∷◌, ◌++◌, map, length, Option, Some, None, inl, inr, refl, sym, ◌∙◌, ap, subst, append-nil, add-one, arith, eq-eqb, if◌then◌else◌}
 use Rattle.std.specs.Prelude.{IfSome, ⊤, reverse, vec_len, vec_capacity}
-use Rattle.std.specs.List.{All, cons_option, filter_map}
+use Rattle.std.specs.List.{All, cons_option, filter_map, flat_map}
 use Rattle.std.proofs.lemmas.List.{reverse-append}
 use Rattle.std.proofs.lemmas.List.Elements.{All-nil, All-cons, All-head, All-tail, All-weaker}
 use Rattle.xa_desk.specs.xa_types.declared.ids.Generation.{Generation}
+use Rattle.xa_desk.specs.xa_types.declared.call.Op.{Op}
 use Rattle.xa_desk.specs.xa_events.declared.event.Event.{Event}
 use Rattle.xa_desk.specs.xa_events.declared.event.Event.TheVariants.{Take, Forward, End, Start, StartFailed}
 use Rattle.xa_desk.specs.xa_events.declared.event.Started.{Started}
 use Rattle.xa_desk.specs.xa_events.declared.event.Doing.TheVariants.{Idle}
 use Rattle.xa_desk.specs.xa_events.Words.{AtEach, count, greatest}
-use Rattle.xa_desk.specs.xa_events.Caller.{tick_in, ticks, tick_floor}
+use Rattle.xa_desk.specs.xa_events.State.{caller_of}
+use Rattle.xa_desk.specs.xa_events.Caller.{tick_in, ticks, tick_floor, is_call_of}
 use Rattle.xa_desk.specs.xa_link.Starts.{AsksFor}
 use Rattle.xa_desk.specs.xa_link.Told.{Rose}
 use Rattle.xa_desk.specs.xa_worker.Work.{WorkState, theirs}
@@ -18,9 +20,10 @@ use Rattle.xa_desk.specs.xa_worker.declared.work.Halt.{Halt}
 use Rattle.xa_desk.specs.xa_pipe.declared.turn.Turn.TheVariants.{AwaitsReady}
 use Rattle.xa_desk.specs.xa_pipe.Frames.{is_take_in}
 use Rattle.xa_desk.specs.xa_pipe.Life.{Occurrence, stops_life, came_at, came_in, finishes_in}
-use Rattle.xa_desk.specs.xa_pipe.Standing.{LifeState, Ending}
-use Rattle.xa_desk.specs.xa_pipe.Following.{is_of, Follows}
+use Rattle.xa_desk.specs.xa_pipe.Standing.{LifeState, Ending, invokes_of, calls_of}
+use Rattle.xa_desk.specs.xa_pipe.Following.{is_of, due_in_life, Follows}
 use Rattle.xa_desk.proofs.xa_pipe.Followed.{follows_begun}
+use Rattle.xa_desk.proofs.xa_pipe.Dues.{due_beside}
 use Rattle.xa_desk.specs.xa_server.declared.slot.ServerSlot.{ServerSlot}
 use Rattle.xa_desk.specs.xa_server.declared.served.Served.{Served}
 use Rattle.xa_desk.specs.xa_server.Served.{StarterShows, Begins, Halts}
@@ -32,15 +35,15 @@ use Rattle.xa_desk.specs.declared.stopped.Stopped.TheVariants.{Here}
 use Rattle.xa_desk.specs.Desks.{Leads}
 use Rattle.xa_desk.specs.Serving.{IsServing, IsSentFor}
 use Rattle.xa_server_worker.specs.declared.working.ServerWorker.{ServerWorker}
-use Rattle.xa_server_worker.specs.Lives.{generation_in, lives_in, failed_starts, starts_of, HasStarted, HasStartedSoFar, IsHanded, IsLived, HandsOn, IsCut}
+use Rattle.xa_server_worker.specs.Lives.{generation_in, lives_in, failed_starts, calls_of_all, starts_of, HasStarted, HasStartedSoFar, IsHanded, IsLived, HandsOn, IsCut}
 use Rattle.xa_server_worker.specs.Working.{cut_in}
 use Rattle.xa_server_worker.specs.Steps.{Steps}
-use Rattle.xa_server_worker.specs.Standing.{Goes, HasLived, IsAtWork, IsOff, IsIn, HasEnded}
+use Rattle.xa_server_worker.specs.Standing.{Goes, HasLived, HasCalled, IsAtWork, IsOff, IsIn, HasEnded}
 use Rattle.xa_server_worker.specs.Behind.{ToldBefore, ToldBy}
 use Rattle.xa_server_worker.proofs.Behind.{still_behind, push_behind, start_calm, told_last}
 use Rattle.xa_server_worker.proofs.Stepping.{noted_steps, halted_own, halted_steps, halted_at}
-use Rattle.xa_server_worker.proofs.Keeping.{handed_more, lived_one, stops_none, skip_count}
-use Rattle.xa_server_worker.proofs.Lasting.{number_of, lives_moved, started_on, lives_hand, none_cut, none_off, halts, goes_by}
+use Rattle.xa_server_worker.proofs.Keeping.{handed_more, lived_one, spares_by, called_still, stops_none, skip_count}
+use Rattle.xa_server_worker.proofs.Lasting.{number_of, starts_count, idle_out, lives_moved, started_on, lives_hand, none_cut, none_off, halts, goes_by}
 use Rattle.xa_server_worker.specs.Reasons.{ShowsReason}
 
 -- ---- what the starter shows
@@ -96,24 +99,40 @@ served_at w served desk = record w { desk = desk; served = served }
 module _ {L T : Type 0} {d : Domain} {shows : T → StarterShows} (w : ServerWorker L T) (off : IsOff d shows w) (served' : Served L T) (desk' : Desk) (leads : Leads d w.desk desk') (seat : desk'.caller.seat ≡ w.desk.caller.seat) (serving : IsServing d w.queue.0 served'.slot desk')
     (name : (shows served'.starter).name ≡ (shows w.served.starter).name) (lives : served'.lives.items ≡ w.served.lives.items) where
   -- lives that ended stay so behind an event that is of none
-  ended_still : {more : List Event} → Steps d more w.desk desk' → ((g : ℕ) → All (λ (e : Event). is_of w.served.slot.server.0 g e ≡ false) more) → All (IsLived d w.name w.queue.0 w.served.slot.server.0 desk') served'.lives.items
-  ended_still steps none =
+  ended_still : {more : List Event} → Steps d more w.desk desk' → ((g : ℕ) → All (λ (e : Event). is_of w.served.slot.server.0 g e ≡ false) more) → All (λ (e : Event). is_call_of (caller_of d.clients w.served.slot.server.0) e ≡ false) more
+      → All (IsLived d w.name w.queue.0 w.served.slot.server.0 desk') served'.lives.items
+  ended_still steps none idle =
       subst (All (IsLived d w.name w.queue.0 w.served.slot.server.0 desk')) (sym {A = List Ending} lives)
-      (All-weaker (IsLived d w.name w.queue.0 w.served.slot.server.0 w.desk) (IsLived d w.name w.queue.0 w.served.slot.server.0 desk') (λ over is. lived_one steps w.name w.queue.0 w.served.slot.server.0 over (number_of off.at.serving) (none over.life.generation.0) is) w.served.lives.items off.at.lived.each)
+      (All-weaker (IsLived d w.name w.queue.0 w.served.slot.server.0 w.desk) (IsLived d w.name w.queue.0 w.served.slot.server.0 desk') (λ over is. lived_one (spares_by steps w.served.slot.server.0 (over.life.generation.0 + 1) (number_of off.at.serving) (λ g apart. none g) idle) w.name w.queue.0 over (λ same. absurd (omega (arith, same))) is) w.served.lives.items off.at.lived.each)
 
-  work_behind : {more : List Event} {going : List Generation} {n f : ℕ} → Steps d more w.desk desk' → HasStarted w.name n f (shows served'.starter) → served'.slot.made ≡ n → failed_starts w.served.slot.server.0 (theirs desk'.caller.work) ≡ f → HasLived d w.name w.queue.0 w.served.slot.server.0 n desk' served'.lives.items going
+  work_behind : {more : List Event} {going : List LifeState} {n f : ℕ} → Steps d more w.desk desk' → HasStarted w.name n f (shows served'.starter) → served'.slot.made ≡ n → failed_starts w.served.slot.server.0 (theirs desk'.caller.work) ≡ f → HasLived d w.name w.queue.0 w.served.slot.server.0 n desk' served'.lives.items (map (λ (life : LifeState). life.generation) going)
+      → HasCalled d (calls_of_all served'.lives.items ++ flat_map calls_of going) desk'
       → tick_floor w.desk.caller.work.clients w.desk.caller.work.id.0 (more ++ (theirs w.desk.caller.work)) ≡ 0 → served'.slot.server ≡ w.served.slot.server → served'.slot.gone ≡ w.served.slot.gone → ToldBy going desk' → IsAtWork d shows (served_at w served' desk') going
-  work_behind steps started made failed lived floor same gone told = record {
+  work_behind steps started made failed lived called floor same gone told = record {
     is = leads.desk;
     serving = serving;
     named_so = name ∙ off.at.named_so;
     started = started_on made (ap (λ s. failed_starts s.0 (theirs desk'.caller.work)) same ∙ failed) refl started;
     lived = lives_moved (ap (λ s. s.0) same) made lived;
+    called = called;
     floor = ap (λ n. tick_floor n desk'.caller.work.id.0 (theirs desk'.caller.work)) steps.clients ∙ ap (λ i. tick_floor w.desk.caller.work.clients i.0 (theirs desk'.caller.work)) steps.id ∙ ap (tick_floor w.desk.caller.work.clients w.desk.caller.work.id.0) steps.own ∙ floor;
     left = gone ∙ off.at.left;
     cut = off.at.cut;
     told = told;
   }
+
+  -- an event of no life and of no call tells nothing in a life that isn't begun
+  still_untold : (e : Event) (h : ℕ) → is_of w.served.slot.server.0 h e ≡ false → is_call_of (caller_of d.clients w.served.slot.server.0) e ≡ false → w.served.slot.made < h → due_in_life d.clients w.served.slot.server.0 h (e ∷ theirs w.desk.caller.work) ≡ []
+  still_untold e h other idle above =
+      due_beside d.clients w.served.slot.server.0 h (e ∷ []) (theirs w.desk.caller.work) (All-cons (λ (x : Event). is_of w.served.slot.server.0 h x ≡ false) e [] other (All-nil (λ (x : Event). is_of w.served.slot.server.0 h x ≡ false)))
+      (All-cons (λ (x : Event). is_call_of (caller_of d.clients w.served.slot.server.0) x ≡ false) e [] idle (All-nil (λ (x : Event). is_call_of (caller_of d.clients w.served.slot.server.0) x ≡ false))) ∙ off.at.lived.untold h above
+
+  -- its calls are what they were
+  called_off : {more : List Event} → Steps d more w.desk desk' → All (λ (e : Event). is_call_of w.desk.caller.work.id.0 e ≡ false) more → HasCalled d (calls_of_all served'.lives.items ++ []) desk'
+  called_off steps idle = subst (λ (l : List Ending). HasCalled d (calls_of_all l ++ []) desk') (sym {A = List Ending} lives) (called_still steps _ idle off.at.called)
+
+  called_by : (life : LifeState) → calls_of life ≡ [] → {more : List Event} → Steps d more w.desk desk' → All (λ (e : Event). is_call_of w.desk.caller.work.id.0 e ≡ false) more → HasCalled d (calls_of_all served'.lives.items ++ (calls_of life ++ [])) desk'
+  called_by life none steps idle = subst (λ (ops : List Op). HasCalled d (calls_of_all served'.lives.items ++ (ops ++ [])) desk') (sym none) (called_off steps idle)
 
   -- ---- it starts
 
@@ -128,24 +147,28 @@ module _ {L T : Type 0} {d : Domain} {shows : T → StarterShows} (w : ServerWor
       let here : (b.server.0 == w.served.slot.server.0) ≡ true = eq-eqb w.served.slot.server.0 w.served.slot.server.0 refl in
       let unborn : (h : ℕ) → w.served.slot.made < h → All (λ (e : Event). is_of w.served.slot.server.0 h e ≡ false) (theirs desk'.caller.work) =
       λ h above. subst (All (λ (e : Event). is_of w.served.slot.server.0 h e ≡ false)) (sym {A = List Event} steps.own) (All-cons (λ (e : Event). is_of w.served.slot.server.0 h e ≡ false) (Start b) (theirs w.desk.caller.work) refl (off.at.lived.unborn h above)) in
+      let untold : (h : ℕ) → w.served.slot.made < h → due_in_life d.clients w.served.slot.server.0 h (theirs desk'.caller.work) ≡ [] = λ h above. ap (due_in_life d.clients w.served.slot.server.0 h) steps.own ∙ still_untold (Start b) h refl refl above in
       let none = unborn g (omega arith) in
       let lived : HasLived d w.name w.queue.0 w.served.slot.server.0 g desk' served'.lives.items (life.generation ∷ []) = record {
         are = ap (λ (l : List Ending). map (λ (over : Ending). over.life.generation) l ++ life.generation ∷ []) lives
             ∙ ap (λ (gs : List Generation). gs ++ life.generation ∷ []) (sym (append-nil (map (λ (over : Ending). over.life.generation) w.served.lives.items)) ∙ off.at.lived.are)
             ∙ ap (λ (h : Generation). lives_in w.served.slot.server.0 (theirs w.desk.caller.work) ++ h ∷ []) gen
             ∙ sym (ap (lives_in w.served.slot.server.0) steps.own ∙ ap (λ (y : Bool). reverse (cons_option (if y then Some b.generation else None) (filter_map (generation_in w.served.slot.server.0) (theirs w.desk.caller.work)))) here ∙ reverse-append (b.generation ∷ []) (filter_map (generation_in w.served.slot.server.0) (theirs w.desk.caller.work)));
-        each = ended_still steps (λ h. All-cons (λ (e : Event). is_of w.served.slot.server.0 h e ≡ false) (Start b) [] refl (All-nil (λ (e : Event). is_of w.served.slot.server.0 h e ≡ false)));
+        each = ended_still steps (λ h. All-cons (λ (e : Event). is_of w.served.slot.server.0 h e ≡ false) (Start b) [] refl (All-nil (λ (e : Event). is_of w.served.slot.server.0 h e ≡ false))) (All-cons (λ (e : Event). is_call_of (caller_of d.clients w.served.slot.server.0) e ≡ false) (Start b) [] refl (All-nil (λ (e : Event). is_call_of (caller_of d.clients w.served.slot.server.0) e ≡ false)));
         earlier = subst (All (λ (over : Ending). over.life.generation.0 + 1 ≤ g)) (sym {A = List Ending} lives) (All-weaker (λ (over : Ending). over.life.generation.0 + 0 ≤ w.served.slot.made) (λ (over : Ending). over.life.generation.0 + 1 ≤ g) (λ over low. omega (arith, low)) w.served.lives.items off.at.lived.earlier);
         unborn = λ h above. unborn h (omega (arith, above));
+        untold = λ h above. untold h (omega (arith, above));
       } in
       let made : served'.slot.made ≡ g = ap (λ (s : ServerSlot). s.made) starts.left in
-      let follows : Follows d.setup (ShowsReason d desk') life (theirs desk'.caller.work) = subst (λ (l : LifeState). Follows d.setup (ShowsReason d desk') l (theirs desk'.caller.work)) (sym begins.is)
-      (follows_begun d.setup w.name w.served.slot.server (next_life w.served.slot) life.link (theirs desk'.caller.work)
+      let follows : Follows d.setup d.clients (ShowsReason d desk') life (theirs desk'.caller.work) = subst (λ (l : LifeState). Follows d.setup d.clients (ShowsReason d desk') l (theirs desk'.caller.work)) (sym begins.is)
+      (follows_begun d.setup d.clients w.name w.served.slot.server (next_life w.served.slot) life.link (theirs desk'.caller.work)
       (counts_none (stops_life w.served.slot.server.0 g) (theirs desk'.caller.work) (All-weaker (λ (e : Event). is_of w.served.slot.server.0 g e ≡ false) (λ (e : Event). stops_life w.served.slot.server.0 g e ≡ false) (stops_none w.served.slot.server.0 g) (theirs desk'.caller.work) none))
       (counts_none (is_take_in w.served.slot.server.0 g) (theirs desk'.caller.work) (All-weaker (λ (e : Event). is_of w.served.slot.server.0 g e ≡ false) (λ (e : Event). is_take_in w.served.slot.server.0 g e ≡ false) (takes_none w.served.slot.server.0 g) (theirs desk'.caller.work) none))
+      (untold g (omega arith))
       (came_none w.served.slot.server.0 g (theirs desk'.caller.work) none)) in
       record {
         at = work_behind steps (started_more w.name w.served.slot.made (failed_starts w.served.slot.server.0 (theirs w.desk.caller.work)) (shows served'.starter) (shows w.served.starter) asks faults off.at.started) made (ap (failed_starts w.served.slot.server.0) steps.own) lived
+            (called_by life (ap calls_of begins.is) steps (All-cons (λ (e : Event). is_call_of w.desk.caller.work.id.0 e ≡ false) (Start b) [] refl (All-nil (λ (e : Event). is_call_of w.desk.caller.work.id.0 e ≡ false))))
             (floor_start w.desk.caller.work.clients w.desk.caller.work.id.0 (Start b) (theirs w.desk.caller.work) (either _) off.at.floor) (ap (λ (s : ServerSlot). s.server) starts.left) (ap (λ (s : ServerSlot). s.gone) starts.left)
             (start_calm w.desk desk' (record { stamp = starts.stamp; event = Start b }) (ap (λ (v : WorkState). v.own) starts.noted.made) seat tt refl off.at.told);
         last = record {
@@ -155,12 +178,12 @@ module _ {L T : Type 0} {d : Domain} {shows : T → StarterShows} (w : ServerWor
         };
         going = record {
           follows = follows;
-          handed = subst (λ (l : LifeState). AtEach (IsHanded l.server.0 l.generation.0 l.asked (IsSentFor d w.queue.0 desk')) (theirs desk'.caller.work)) (sym begins.is)
+          handed = subst (λ (l : LifeState). AtEach (IsHanded l.server.0 l.generation.0 (invokes_of l) (IsSentFor d w.queue.0 desk')) (theirs desk'.caller.work)) (sym begins.is)
               (subst (AtEach (IsHanded w.served.slot.server.0 g [] (IsSentFor d w.queue.0 desk'))) (append-nil (theirs desk'.caller.work)) (handed_more w.served.slot.server.0 g [] (IsSentFor d w.queue.0 desk') (theirs desk'.caller.work) [] none tt));
         };
         does = ap (λ (s : ServerSlot). s.doing) starts.left ∙ ap Idle (sym gen);
         turns = ap (λ (l : LifeState). l.turn) begins.is;
-        asked = ap (λ (l : LifeState). length l.asked) begins.is ∙ ap (λ (l : LifeState). length (finishes_in l.said) + 0) (sym begins.is);
+        asked = ap (λ (l : LifeState). length (invokes_of l)) begins.is ∙ ap (λ (l : LifeState). length (finishes_in l.said) + 0) (sym begins.is);
         room = room;
       }
 
@@ -184,10 +207,13 @@ module _ {L T : Type 0} {d : Domain} {shows : T → StarterShows} (w : ServerWor
               (ap (failed_starts w.served.slot.server.0) steps.own ∙ ap (λ (y : Bool). cond y (failed_starts w.served.slot.server.0 (theirs w.desk.caller.work) + 1) (failed_starts w.served.slot.server.0 (theirs w.desk.caller.work))) here)
               (record {
                 are = ap (λ (l : List Ending). map (λ (over : Ending). over.life.generation) l ++ []) lives ∙ off.at.lived.are ∙ ap (lives_in w.served.slot.server.0) (sym steps.own);
-                each = ended_still steps (λ h. All-cons (λ (e : Event). is_of w.served.slot.server.0 h e ≡ false) (StartFailed b) [] refl (All-nil (λ (e : Event). is_of w.served.slot.server.0 h e ≡ false)));
+                each = ended_still steps (λ h. All-cons (λ (e : Event). is_of w.served.slot.server.0 h e ≡ false) (StartFailed b) [] refl (All-nil (λ (e : Event). is_of w.served.slot.server.0 h e ≡ false)))
+                    (All-cons (λ (e : Event). is_call_of (caller_of d.clients w.served.slot.server.0) e ≡ false) (StartFailed b) [] refl (All-nil (λ (e : Event). is_call_of (caller_of d.clients w.served.slot.server.0) e ≡ false)));
                 earlier = subst (All (λ (over : Ending). over.life.generation.0 + 0 ≤ g)) (sym {A = List Ending} lives) (All-weaker (λ (over : Ending). over.life.generation.0 + 0 ≤ w.served.slot.made) (λ (over : Ending). over.life.generation.0 + 0 ≤ g) (λ over low. omega (arith, low)) w.served.lives.items off.at.lived.earlier);
                 unborn = λ h above. subst (All (λ (e : Event). is_of w.served.slot.server.0 h e ≡ false)) (sym {A = List Event} steps.own) (All-cons (λ (e : Event). is_of w.served.slot.server.0 h e ≡ false) (StartFailed b) (theirs w.desk.caller.work) refl (off.at.lived.unborn h (omega (arith, above))));
+                untold = λ h above. ap (due_in_life d.clients w.served.slot.server.0 h) steps.own ∙ still_untold (StartFailed b) h refl refl (omega (arith, above));
               })
+              (called_off steps (All-cons (λ (e : Event). is_call_of w.desk.caller.work.id.0 e ≡ false) (StartFailed b) [] refl (All-nil (λ (e : Event). is_call_of w.desk.caller.work.id.0 e ≡ false))))
               (floor_start w.desk.caller.work.clients w.desk.caller.work.id.0 (StartFailed b) (theirs w.desk.caller.work) (either _) off.at.floor) (ap (λ (s : ServerSlot). s.server) fails.left) (ap (λ (s : ServerSlot). s.gone) fails.left) (told_last ⊥ desk' told);
           off = ap (λ (s : ServerSlot). s.doing) fails.left ∙ off.off;
           up = ap (λ (s : ServerSlot). s.shut) fails.left ∙ off.up;
@@ -201,12 +227,12 @@ module _ {L T : Type 0} {d : Domain} {shows : T → StarterShows} (w : ServerWor
   halts_with n halt same noted so_far =
       let still = halted_steps n halt leads noted in
       let own_same : theirs desk'.caller.work ≡ theirs w.desk.caller.work = still.own in
-      halts (served_at w served' desk') (Here halt) leads.desk serving (name ∙ off.at.named_so)
+      halts (served_at w served' desk') (Here halt) leads.desk (number_of serving) (idle_out desk' serving.idle) serving.hand (starts_count serving) (name ∙ off.at.named_so)
       (ap (λ (l : List Ending). map (λ (over : Ending). over.life.generation) l ++ map (λ (life : LifeState). life.generation) (cut_in w.cut)) lives ∙ ap (λ (o : Option LifeState). map (λ (over : Ending). over.life.generation) w.served.lives.items ++ map (λ (life : LifeState). life.generation) (cut_in o)) off.at.cut ∙ off.at.lived.are
       ∙ sym (ap (λ (s : ServerSlot). lives_in s.server.0 (theirs desk'.caller.work)) same ∙ ap (lives_in w.served.slot.server.0) own_same))
       (subst (λ (s : ServerSlot). All (HandsOn d w.queue.0 s.server.0 desk') (map (λ (over : Ending). over.life) served'.lives.items ++ cut_in w.cut)) (sym same)
       (none_cut (HandsOn d w.queue.0 w.served.slot.server.0 desk') (map (λ (over : Ending). over.life) served'.lives.items) w.cut off.at.cut
-      (lives_hand served'.lives.items (ended_still still (λ g. All-nil (λ (e : Event). is_of w.served.slot.server.0 g e ≡ false))))))
+      (lives_hand served'.lives.items (ended_still still (λ g. All-nil (λ (e : Event). is_of w.served.slot.server.0 g e ≡ false)) (All-nil (λ (e : Event). is_call_of (caller_of d.clients w.served.slot.server.0) e ≡ false))))))
       (none_off (IsCut w.name served'.slot.server.0 (theirs desk'.caller.work)) w.cut off.at.cut)
       (subst (λ (s : ServerSlot). HasStartedSoFar w.name s.made (failed_starts s.server.0 (theirs desk'.caller.work)) (shows served'.starter)) (sym same) (subst (λ (l : List Event). HasStartedSoFar w.name w.served.slot.made (failed_starts w.served.slot.server.0 l) (shows served'.starter)) (sym {A = List Event} own_same) so_far))
       (still_behind w.desk desk' ⊤ (halted_own w.desk desk' n halt noted) seat off.at.told) (halted_at w.desk desk' n halt noted)
