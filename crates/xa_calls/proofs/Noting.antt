@@ -162,7 +162,7 @@ abbrev IsTickless : Desk → Event → Type 0
 IsTickless desk e = tick_in desk.caller.work.clients desk.caller.work.id.0 e ≡ None
 
 closes_tickless : (clients caller : ℕ) (e : Event) (past : List Event) → Closes e past → tick_in clients caller e ≡ None
-closes_tickless clients caller (Refuse r) past closes = elim (cases_Bool (r.by.0 == caller)) [ | inl its ↦ rw its closes.1 | inr another ↦ rw another refl ]
+closes_tickless clients caller (Refuse r) past closes = elim (cases_Bool (r.by.0 == caller)) [ inl its ↦ rw its closes.1 | inr another ↦ rw another refl ]
 closes_tickless clients caller (Priority p) past closes = refl
 closes_tickless clients caller (Answer a) past closes = refl
 closes_tickless clients caller e past closes = absurd closes

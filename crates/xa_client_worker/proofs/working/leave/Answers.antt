@@ -1,6 +1,5 @@
-use Rattle.std.proofs.Common.{Option, refl, sym, ◌∙◌, ap, subst, OnOk}
+use Rattle.std.proofs.Common.{Option, refl, sym, ◌∙◌, subst, OnOk}
 use Rattle.std.specs.Prelude.{IfErr, IfSome}
-use Rattle.xa_desk.specs.xa_worker.Work.{WorkState}
 use Rattle.xa_desk.specs.declared.stopped.Stopped.{Stopped}
 use Rattle.xa_desk.specs.Halting.{IsStopAt}
 use Rattle.xa_calls.specs.Going.{IsStopped}
