@@ -131,7 +131,7 @@ says_by : (caller n : ℕ) (e : Event) (past all : List Event) → is_op caller 
 says_by caller n (Refuse r) past all is closes whole = ap (λ es. reply_at es caller n) whole ∙ newest_told caller n (Refuse r) past is ∙ closes.0
 says_by caller n (Priority p) past all is closes whole = ap (λ es. reply_at es caller n) whole ∙ newest_told caller n (Priority p) past is
 says_by caller n (Answer a) past all is closes whole =
-    (a, past, whole, ap (λ es. reply_at es caller n) whole ∙ newest_told caller n (Answer a) past is ∙ ap (λ (d : ℕ). replies.Answered d a.answer) (descriptor_none (last_op a.by.0 past) a.op a.request.number closes))
+    (a, past, whole, ap (λ es. reply_at es caller n) whole ∙ newest_told caller n (Answer a) past is ∙ ap (λ (d : ℕ). replies.Answered d a.answer) (descriptor_none (last_op a.by.0 past) a.op a.request.number closes.0), closes.1)
 says_by caller n e past all is closes whole = absurd closes
 
 closes_here : (setup : Setup) (clients caller n : ℕ) (x : Stamped) (past : List Event) → is_op caller n x.event ≡ true → Closes x.event past → stands_at setup clients (CallerHome caller) x ≡ true
@@ -281,7 +281,7 @@ sends_one op stamp draft event old new above prepared drafted at its sends = rec
 -- a look for the answer
 pub looks_notes : (expect : Option Kind) (step : Step) (old new : Desk) → 0 < old.caller.op → IsSound old.caller → StepsAs expect step new.caller old.caller → LookNotes old.caller.op (looked_by step) old new
 looks_notes expect (steps.Told stamp) old new above sound answers =
-    notes_one old.caller.op Closes stamp (Answer (record { by = old.caller.work.id; op = old.caller.op; request = answers.sent.request; answer = answer_to expect answers.reply })) _ old new answers.noted refl (its_op old.caller.work.id.0 old.caller.work.id.0 old.caller.op refl above) sound.reads.called
+    notes_one old.caller.op Closes stamp (Answer (record { by = old.caller.work.id; op = old.caller.op; request = answers.sent.request; answer = answer_to expect answers.reply })) _ old new answers.noted refl (its_op old.caller.work.id.0 old.caller.work.id.0 old.caller.op refl above) (sound.reads.called, answers.sound)
 looks_notes expect steps.Wait old new above sound waits = ap (λ (c : CallerState). c.work.own) waits.3
 looks_notes expect (steps.Halt halt) old new above sound loses = (ap (λ (c : CallerState). c.work.own) loses.made, subst (λ (h : Halt). IsNoWant (ends.Here h)) (sym loses.last) tt)
 looks_notes expect steps.Halted old new above sound abandons = (ap (λ (c : CallerState). c.work.own) abandons.made, tt)

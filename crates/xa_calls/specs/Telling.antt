@@ -7,6 +7,7 @@ use Rattle.xa_desk.specs.xa_events.declared.event.Event.TheVariants.{Answer, Ref
 use Rattle.xa_desk.specs.xa_events.declared.event.Replied.{Replied}
 use Rattle.xa_desk.specs.xa_events.Caller.{last_op, tick_of, tick_in}
 use Rattle.xa_desk.specs.xa_events.Said.{is_op, reply_at, refusal_reply}
+use Rattle.xa_desk.specs.xa_frame.Spelling.{IsAnswer}
 use Rattle.xa_desk.specs.xa_stamp.declared.home.Stamped.{Stamped}
 use Rattle.xa_desk.specs.xa_worker.Seen.{past_in}
 use Rattle.xa_desk.specs.xa_worker.declared.work.Halt.TheVariants.{NoMemory}
@@ -39,11 +40,11 @@ pub record NotesOne (number : ℕ) (P : Event → List Event → Type 0) (old ne
 abbrev pub Accepts : Event → List Event → Type 0
 Accepts e before = is_accept e ≡ true
 
--- the call is over: it is refused, by what names no tick, or done, or its own request is answered
+-- the call is over: it is refused, by what names no tick, or done, or its own request is answered, by what has a spelling
 abbrev pub Closes : Event → List Event → Type 0
 Closes (Refuse r) before = (refusal_reply r.fault r.evidence ≡ replies.Fault r.fault) × (tick_of r.evidence ≡ None)
 Closes (Priority p) before = Unit {0}
-Closes (Answer a) before = last_op a.by.0 before ≡ a.op
+Closes (Answer a) before = (last_op a.by.0 before ≡ a.op) × IsAnswer a.answer
 Closes e before = ⊥
 
 -- what an attempt to send notes: the accept, or the refusal, or nothing; and nothing of it stands where it failed
@@ -86,11 +87,11 @@ told_of (Refuse r) = tells.Fault r.fault
 told_of (Answer a) = tells.Answered
 told_of e = tells.Done
 
--- what the caller is told of its call with that number is what its events say of it; of an answer, that it stands as the newest of them
+-- what the caller is told of its call with that number is what its events say of it; of an answer, that it stands as the newest of them, and has a spelling
 abbrev pub Says : Told → ℕ → ℕ → List Event → Type 0
 Says tells.Done number caller past = reply_at past caller number ≡ replies.Done
 Says (tells.Fault fault) number caller past = reply_at past caller number ≡ replies.Fault fault
-Says tells.Answered number caller past = (a : Replied) × (older : List Event) × (past ≡ Answer a ∷ older) × (reply_at past caller number ≡ replies.Answered 0 a.answer)
+Says tells.Answered number caller past = (a : Replied) × (older : List Event) × (past ≡ Answer a ∷ older) × (reply_at past caller number ≡ replies.Answered 0 a.answer) × IsAnswer a.answer
 
 -- all that the worker noted is this one call, of which no event names a tick, and its caller is told what that says
 pub record IsTold (told : Told) (number : ℕ) (old new : Desk) : Type 0 where
