@@ -4,7 +4,7 @@ use Rattle.std.specs.Prelude.{IfSome, slice_set, ⊤}
 use Rattle.std.specs.List.{All, Contains}
 use Rattle.std.proofs.lemmas.Bool.{false≢true}
 use Rattle.std.proofs.lemmas.List.{append_assoc, append-nil}
-use Rattle.std.proofs.lemmas.List.Elements.{All-push, All-weaker}
+use Rattle.std.proofs.lemmas.List.Elements.{All-head, All-tail, All-push, All-weaker}
 use Rattle.xa_desk.specs.xa_types.declared.stamp.Stamp.{Stamp}
 use Rattle.xa_desk.specs.xa_types.declared.reply.Answer.{Answer}
 use Rattle.xa_desk.specs.xa_types.declared.ids.Generation.{Generation}
@@ -177,6 +177,24 @@ module _ (old new : Desk) where
   pub still_calm : own' ≡ own → new.caller.seat ≡ old.caller.seat → IsCalm old → IsCalm new
   still_calm is seat calm = (still_behind ⊥ is seat calm.0, ap (λ (l : List Stamped). is_ending (past_in l)) is ∙ calm.1)
 
+  -- events that end no life, where the seat filled none
+  pub calm_called : (rest : List Stamped) → own' ≡ own ++ rest → ((k : ℕ) → (at k (known new.caller.seat)).filled ≡ (at k (known old.caller.seat)).filled) → All (λ (x : Stamped). ends_by x.event false ≡ false) rest → IsCalm old → IsCalm new
+  calm_called rest is fills ends calm = (
+    (λ k. subst (λ (l : List Stamped). All (FilledBehind ⊥ ⊤ l) (at k (known new.caller.seat)).filled) (sym {A = List Stamped} is)
+    (subst (All (FilledBehind ⊥ ⊤ (own ++ rest))) (sym (fills k)) (all_behind own (own ++ rest) (known old.caller.seat) (λ stamp behind. behind_more own rest stamp (λ any. none_first rest ends) behind) calm.0 k))),
+    ap (λ (l : List Stamped). is_ending (past_in l)) is ∙ still_ending own rest calm.1 ends,
+  )
+    where
+      none_first : (more : List Stamped) → All (λ (x : Stamped). ends_by x.event false ≡ false) more → NoExitNext ⊤ more
+      none_first [] none = tt
+      none_first (x ∷ more) none = ends_none x.event (All-head (λ (y : Stamped). ends_by y.event false ≡ false) x more none)
+
+      still_ending : (before more : List Stamped) → is_ending (past_in before) ≡ false → All (λ (x : Stamped). ends_by x.event false ≡ false) more → is_ending (past_in (before ++ more)) ≡ false
+      still_ending before [] goes none = ap (λ (l : List Stamped). is_ending (past_in l)) (append-nil before) ∙ goes
+      still_ending before (x ∷ more) goes none =
+          let again : is_ending (past_in (before ++ x ∷ [])) ≡ false = ap is_ending (past_in-append before (x ∷ [])) ∙ (ap (ends_by x.event) goes ∙ All-head (λ (y : Stamped). ends_by y.event false ≡ false) x more none) in
+          ap (λ (l : List Stamped). is_ending (past_in l)) (sym (append_assoc before (x ∷ []) more)) ∙ still_ending (before ++ x ∷ []) more again (All-tail (λ (y : Stamped). ends_by y.event false ≡ false) x more none)
+
   -- its server was started
   pub start_calm : (x : Stamped) → own' ≡ own ++ x ∷ [] → new.caller.seat ≡ old.caller.seat → SweepsOr x.event ⊥ → ends_by x.event (is_ending (past_in own)) ≡ false → TellsLast old → IsCalm new
   start_calm x is seat starts ends told = (push_behind ⊥ ⊤ x is seat starts told, ending_push x is ∙ ends)
@@ -199,9 +217,9 @@ told_last M desk all =
     all_behind {R = ⊥} {L = M} {Q = ⊤} {M = ⊤} desk.caller.work.own desk.caller.work.own (known desk.caller.seat)
     (λ stamp behind. subst (λ (l : List Stamped). IsBehindEnd ⊤ ⊤ l stamp) (append-nil desk.caller.work.own) (behind_more {R = ⊤} {L = ⊤} {M = M} desk.caller.work.own [] stamp (λ any. tt) behind)) all
 
-pub by_told : (going : List Generation) (desk : Desk) → ToldBy going desk → TellsLast desk
+pub by_told : {X : Type 0} (going : List X) (desk : Desk) → ToldBy going desk → TellsLast desk
 by_told [] desk told = told
-by_told (g ∷ more) desk calm = told_last ⊤ desk calm.0
+by_told (life ∷ more) desk calm = told_last ⊤ desk calm.0
 
 -- a worker that noted nothing told nobody
 pub first_told : (desk : Desk) → desk.caller.work.own ≡ [] → FilledByEnds desk.caller.work.own (known desk.caller.seat) → TellsLast desk

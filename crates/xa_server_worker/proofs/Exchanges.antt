@@ -178,8 +178,8 @@ acting_after : (from : Turn) (tag : ℕ) (back : Finish) → is_acting from ≡ 
 acting_after from tag (Returns back) acts = elim (acting_turn from acts) [ inl is ↦ ap (λ (t : Turn). turn_after t (finish_frame tag (Returns back)).body) is | inr is ↦ ap (λ (t : Turn). turn_after t (finish_frame tag (Returns back)).body) is ]
 acting_after from tag (Forwards forward) acts = elim (acting_turn from acts) [ inl is ↦ ap (λ (t : Turn). turn_after t (finish_frame tag (Forwards forward)).body) is | inr is ↦ ap (λ (t : Turn). turn_after t (finish_frame tag (Forwards forward)).body) is ]
 
-pub finish_becomes : {new old : LifeState} {back : Finish} → Heard (finish_frame (tag_of old) back) new old → is_acting old.turn ≡ true → Becomes old.asked new old
-finish_becomes {new} {old} {back} heard acts = record { link = new.link; said = _; turn = _; made = heard.made; calls = calls_finished old new (tag_of old) back heard (acting_turn old.turn acts) }
+pub finish_becomes : {new old : LifeState} (back : Finish) → Heard (finish_frame (tag_of old) back) new old → is_acting old.turn ≡ true → Becomes old.asked new old
+finish_becomes {new} {old} back heard acts = record { link = new.link; said = _; turn = _; made = heard.made; calls = calls_finished old new (tag_of old) back heard (acting_turn old.turn acts) }
 
 -- it asks for no call as it says READY
 calls_ready : (link : LinkShows) (old : LifeState) → old.turn ≡ AwaitsReady → calls_of (with_said (ready_frame old.name) link old) ≡ calls_of old
@@ -188,11 +188,11 @@ calls_ready link old turn =
     (λ now. let next : turn_after old.turn (ready_frame old.name).body ≡ AwaitsNext = ap (λ (t : Turn). turn_after t (ready_frame old.name).body) turn in cc (next, now))
 
 -- nor as a request is handed to it
-sent_calls : {f : Frame} (life : LifeState) → life.turn ≡ AwaitsInvoke → (new : LifeState) (link : LinkShows) → new ≡ with_asked f link life → calls_of new ≡ calls_of life
-sent_calls {f} life turn new link made = calls_replied life new f link made ∙ sym (all_made life.turn (calls_in life.said) (λ was. cc (was, turn)))
+sent_calls : (f : Frame) (life : LifeState) → life.turn ≡ AwaitsInvoke → (new : LifeState) (link : LinkShows) → new ≡ with_asked f link life → calls_of new ≡ calls_of life
+sent_calls f life turn new link made = calls_replied life new f link made ∙ sym (all_made life.turn (calls_in life.said) (λ was. cc (was, turn)))
 
 invokes_push : (asked : List Frame) (f : Frame) → is_invoke_body f.body ≡ true → invokes_in (asked ++ f ∷ []) ≡ invokes_in asked ++ f ∷ []
-invokes_push asked f yes = filter-append (λ (g : Frame). is_invoke_body g.body) asked (f ∷ []) ∙ ap (λ (fs : List Frame). invokes_in asked ++ fs) (rw yes refl)
+invokes_push asked f invokes = filter-append (λ (g : Frame). is_invoke_body g.body) asked (f ∷ []) ∙ ap (λ (fs : List Frame). invokes_in asked ++ fs) (rw invokes refl)
 
 pub exits_turn : (value : Rval) → is_exit value ≡ true → turn_behind value ≡ Exited
 exits_turn rvals.Exit is = refl
@@ -372,7 +372,7 @@ module _ {L T : Type 0} {d : Domain} {shows : T → StarterShows} (w : ServerWor
 
     pub sent_in : (new : LifeState) → Invoked f new life → IsIn d shows (Busy new.generation has.t.request) Serving 1 new w
     sent_in new invoked =
-        let becomes : Becomes (life.asked ++ f ∷ []) new life = record { link = _; said = life.said; turn = Serving; made = invoked.made; calls = sent_calls life has.turns new _ invoked.made } in
+        let becomes : Becomes (life.asked ++ f ∷ []) new life = record { link = _; said = life.said; turn = Serving; made = invoked.made; calls = sent_calls f life has.turns new _ invoked.made } in
         record {
           at = at_still (life.asked ++ f ∷ []) becomes has.at;
           last = last_still (life.asked ++ f ∷ []) becomes has.last;
@@ -389,7 +389,7 @@ module _ {L T : Type 0} {d : Domain} {shows : T → StarterShows} (w : ServerWor
     -- or it wasn't sent
     pub unsent_dies : (over : Ending) → Unsent f over life → MayDie d shows over w
     unsent_dies over unsent =
-        let becomes : Becomes (life.asked ++ f ∷ []) over.life life = record { link = over.life.link; said = life.said; turn = Serving; made = unsent.life; calls = sent_calls life has.turns over.life over.life.link unsent.life } in
+        let becomes : Becomes (life.asked ++ f ∷ []) over.life life = record { link = over.life.link; said = life.said; turn = Serving; made = unsent.life; calls = sent_calls f life has.turns over.life over.life.link unsent.life } in
         let serving : over.life.turn ≡ Serving = ap (λ (l : LifeState). l.turn) unsent.life in
         record {
           at = at_still (life.asked ++ f ∷ []) becomes has.at;
@@ -474,7 +474,7 @@ module _ {L T : Type 0} {d : Domain} {shows : T → StarterShows} (w : ServerWor
       let lived : life_in slot.doing ≡ old.generation = ap life_in is.does in
       let ours : is_of old.server.0 old.generation.0 event ≡ true =
       ap (λ (s : ServerId). is_of s.0 old.generation.0 event) is.last.server ∙ ap (λ (g : Generation). is_of slot.server.0 g.0 event) (sym lived) ∙ done.its in
-      let becomes : Becomes old.asked new old = finish_becomes heard (ap is_acting is.turns ∙ acts) in
+      let becomes : Becomes old.asked new old = finish_becomes back heard (ap is_acting is.turns ∙ acts) in
       let at = work_on w slot' desk' (event ∷ []) old serves (All-cons (OfLife slot.made) event [] (of_number event (finished_event d.setup (ShowsReason d desk') back event (own_of w) comes) ours is.last.number) (All-nil (OfLife slot.made)))
       (calm_push w.desk desk' (record { stamp = done.stamp; event = event }) done.noted done.seat ends) is.at in
       let last = last_on w.name slot slot' old serves.server serves.made is.last in

@@ -231,16 +231,16 @@ life_adds {d} {old} {new} {more} steps server made number its =
     }
 
 -- and so are those of a new call that was made in it
-call_no_start : (caller n server : ℕ) (e : Event) → is_op caller n e ≡ true → generation_in server e ≡ None
+pub call_no_start : (caller n server : ℕ) (e : Event) → is_op caller n e ≡ true → generation_in server e ≡ None
 call_no_start caller n server (Start b) is = absurd (cc is)
 call_no_start caller n server _ is = refl
 
-call_no_failure : (caller n server : ℕ) (e : Event) → is_op caller n e ≡ true → fails_start server e ≡ false
+pub call_no_failure : (caller n server : ℕ) (e : Event) → is_op caller n e ≡ true → fails_start server e ≡ false
 call_no_failure caller n server (StartFailed b) is = absurd (cc is)
 call_no_failure caller n server _ is = refl
 
 -- what holds of each event of a call
-each_call : (caller n : ℕ) (P : Event → Type 0) → ((e : Event) → is_op caller n e ≡ true → P e) → (more : List Event) → AreCall caller n more → All P more
+pub each_call : (caller n : ℕ) (P : Event → Type 0) → ((e : Event) → is_op caller n e ≡ true → P e) → (more : List Event) → AreCall caller n more → All P more
 each_call caller n P each (e ∷ []) is = All-cons P e [] (each e is) (All-nil P)
 each_call caller n P each (e ∷ a ∷ []) (is, other, its, accepts) = All-cons P e (a ∷ []) (each e is) (All-cons P a [] (each a its) (All-nil P))
 each_call caller n P each [] are = absurd are

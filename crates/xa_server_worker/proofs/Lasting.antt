@@ -118,7 +118,7 @@ hands_beside {d} {queue} {server} {old} {new} {life} {more} steps others is = re
 
 -- or none at all
 pub hands_led : {d : Domain} {queue server : ℕ} {old new : Desk} {life : LifeState} → Steps d [] old new → HandsOn d queue server old life → HandsOn d queue server new life
-hands_led {d} {queue} {server} {old} {new} {life} steps is = hands_beside {d} {queue} {server} {old} {new} {life} steps (All-nil (λ (e : Event). is_of server life.generation.0 e ≡ false)) is
+hands_led {d} {queue} {server} {old} {new} {life} steps is = hands_beside {d = d} {queue = queue} {server = server} {old = old} {new = new} {life = life} steps (All-nil (λ (e : Event). is_of server life.generation.0 e ≡ false)) is
 
 -- the calls of these lives and of one more
 pub calls_more : (lives : List Ending) (over : Ending) → calls_of_all (lives ++ over ∷ []) ++ [] ≡ calls_of_all lives ++ flat_map calls_of (over.life ∷ [])

@@ -6,6 +6,7 @@ pub mod Lasting
 pub mod Deaths
 pub mod Onward
 pub mod Exchanges
+pub mod Calling
 pub mod Starts
 pub mod Leaves
 pub mod Serves
