@@ -2,13 +2,12 @@
 use Rattle.std.proofs.Common.{◌≡◌, ℕ, ◌+◌, ◌<◌, ◌≤◌, ◌==◌, ◌&&◌, Bool, true, false, List, [], ◌∷◌, inl, inr, refl, ◌∙◌, ap, arith, eqb-true}
 use Rattle.std.specs.Prelude.{nat_lt}
 use Rattle.std.proofs.lemmas.Bool.{cases_Bool, and_parts, ltb-true}
-use Rattle.xa_types.specs.declared.ids.CallerId.{CallerId}
 use Rattle.xa_types.specs.declared.setup.Setup.{Setup}
 use Rattle.xa_events.specs.declared.event.Event.{Event}
 use Rattle.xa_events.specs.declared.event.Event.TheVariants.{Advertise, Withdraw, Accept, Tick, Answer, Cancel, Lapse, Refuse, NotYet, Send, Receive, Break, Priority}
 use Rattle.xa_events.specs.Words.{count, AtEach}
 use Rattle.xa_events.specs.Caller.{is_call_of, op_in, newest_call, last_op}
-use Rattle.xa_events.specs.Cases.{IsNextCall, ChangeWorker, WorkerPart}
+use Rattle.xa_events.specs.Cases.{IsNextCall, WorkerPart}
 use Rattle.xa_events.specs.Local.{worker_events}
 use Rattle.xa_events.specs.Said.{is_op}
 use Rattle.xa_events.proofs.WordsLemmas.{count_no}
