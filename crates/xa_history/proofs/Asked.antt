@@ -1,5 +1,5 @@
 -- What was due to the program of a life: an INVOKE for each request that was taken, as it was sent last in the run.
-use Rattle.std.proofs.Common.{◌≡◌, ℕ, zero, suc, ◌+◌, ◌%◌, ◌^◌, ◌==◌, Bool, true, false, cond, List, [], ◌∷◌, ◌++◌, length, reverse, append-nil, add-one, refl, sym, ◌∙◌, ap, subst, arith, eqb-true}
+use Rattle.std.proofs.Common.{◌≡◌, ℕ, zero, suc, ◌+◌, ◌%◌, ◌^◌, ◌==◌, Bool, true, false, cond, List, [], ◌∷◌, ◌++◌, length, reverse, append-nil, add-one, refl, sym, ◌∙◌, ap, subst, eqb-true}
 use Rattle.std.specs.Prelude.{take, drop}
 use Rattle.std.proofs.lemmas.Bool.{and_parts}
 use Rattle.std.proofs.lemmas.List.Elements.{filter-append}
@@ -22,7 +22,7 @@ use Rattle.xa_client_worker.specs.xa_frame.declared.frame.Frame.{Frame}
 use Rattle.xa_client_worker.specs.xa_pipe.Following.{IsSent}
 use Rattle.xa_client_worker.specs.xa_pipe.Frames.{is_of_life, is_take_in, invocation}
 use Rattle.xa_client_worker.specs.xa_pipe.Pipe.{invoke_frame}
-use Rattle.xa_client_worker.specs.xa_pipe.Standing.{LifeState}
+use Rattle.xa_client_worker.specs.xa_pipe.Standing.{LifeState, invokes_of}
 use Rattle.xa_client_worker.specs.xa_worker.Work.{WorkState, theirs}
 use Rattle.xa_client_worker.specs.xa_desk.declared.domain.Domain.{Domain}
 use Rattle.xa_client_worker.specs.xa_desk.declared.desk.Desk.{Desk}
@@ -122,5 +122,6 @@ module _ (d : Domain) (b : Back) (domain : WorkState) (desks : List Desk) (serve
     pub life_asked : (life : LifeState) → HandsOn d queue server shows.desk life → HasAsked server past life
     life_asked life hands =
         let g : ℕ = life.generation.0 in
-        let takes : count (is_take_in server g) past ≡ length life.asked = sym (taken_own d.clients server g past) ∙ (ap (count (is_take_in server g)) shows.own ∙ hands.taken) in
-        sym (invokes_are server g life.asked past (takes_sent g life.asked hands.handed) ∙ (ap (λ (n : ℕ). take n life.asked) takes ∙ take_whole life.asked))
+        let invokes : List Frame = invokes_of life in
+        let takes : count (is_take_in server g) past ≡ length invokes = sym (taken_own d.clients server g past) ∙ (ap (count (is_take_in server g)) shows.own ∙ hands.taken) in
+        sym (invokes_are server g invokes past (takes_sent g invokes hands.handed) ∙ (ap (λ (n : ℕ). take n invokes) takes ∙ take_whole invokes))

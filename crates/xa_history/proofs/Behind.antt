@@ -58,7 +58,7 @@ use Rattle.xa_history.specs.Told.{all_noted, is_start, is_sweep, to_start, IsOve
 use Rattle.xa_history.specs.Served.{IsRecorded}
 use Rattle.xa_history.proofs.Listed.{all_numbered, one_there}
 use Rattle.xa_history.proofs.Going.{among}
-use Rattle.xa_history.proofs.Clients.{noted_is}
+use Rattle.xa_history.proofs.Callers.{noted_is}
 use Rattle.xa_history.proofs.History.{each_at, is_some}
 use Rattle.xa_history.proofs.Left.{each_worker, has_left, each_left}
 use Rattle.xa_history.proofs.Standing.{at_makers}

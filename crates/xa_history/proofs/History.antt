@@ -1,5 +1,5 @@
 -- The merge of all homes is one history, where the run came to its end.
-use Rattle.std.proofs.Common.{◌≡◌, ◌⊎◌, ℕ, zero, suc, ◌+◌, ◌<◌, ◌≤◌, true, false, List, [], ◌∷◌, length, map, reverse, Option, Some, None, option_map, inl, inr, refl, sym, ◌∙◌, ap, subst, arith, add-one, eq-eqb}
+use Rattle.std.proofs.Common.{◌≡◌, ◌⊎◌, ℕ, zero, suc, ◌+◌, ◌<◌, ◌≤◌, true, List, [], ◌∷◌, length, map, reverse, Option, Some, None, option_map, inl, inr, refl, sym, ◌∙◌, ap, subst, arith, add-one, eq-eqb}
 use Rattle.std.specs.Prelude.{IsSomeAnd, ⊤}
 use Rattle.std.specs.List.{Contains}
 use Rattle.std.proofs.lemmas.Bool.{cases_eq}
@@ -9,9 +9,8 @@ use Rattle.xa_client_worker.specs.xa_types.declared.call.Op.{Op}
 use Rattle.xa_client_worker.specs.xa_types.declared.stamp.Stamp.{Stamp}
 use Rattle.xa_client_worker.specs.xa_types.Setup.{numbered, queue_of}
 use Rattle.xa_client_worker.specs.xa_events.declared.event.Event.{Event}
-use Rattle.xa_client_worker.specs.xa_events.declared.event.Event.TheVariants.{Accept}
-use Rattle.xa_client_worker.specs.xa_events.Caller.{accepted_in, has_left, is_leave_of, last_op, newest_call}
-use Rattle.xa_client_worker.specs.xa_events.Calls.{MadeCalls, awaits_answer}
+use Rattle.xa_client_worker.specs.xa_events.Caller.{has_left, is_leave_of}
+use Rattle.xa_client_worker.specs.xa_events.Calls.{MadeCalls}
 use Rattle.xa_client_worker.specs.xa_events.Cases.{HomePart, IsShut}
 use Rattle.xa_client_worker.specs.xa_events.Homes.{Home}
 use Rattle.xa_client_worker.specs.xa_events.Homes.Home.{QueueHome}
@@ -30,7 +29,7 @@ use Rattle.xa_client_worker.specs.xa_lock.Makers.{noted_in}
 use Rattle.xa_client_worker.specs.xa_worker.Crew.{AllOver}
 use Rattle.xa_client_worker.specs.xa_worker.Ending.{list_in, workers_of}
 use Rattle.xa_client_worker.specs.xa_worker.Seen.{past_in, SawFront, SawQueue}
-use Rattle.xa_client_worker.proofs.xa_worker.Joined.{client_made_calls, own_events, own_home, takes_in_order}
+use Rattle.xa_client_worker.proofs.xa_worker.Joined.{own_events, own_home, takes_in_order}
 use Rattle.xa_client_worker.proofs.xa_worker.Over.{crew_is_final}
 use Rattle.xa_client_worker.specs.xa_held.Kept.{Kept}
 use Rattle.xa_client_worker.specs.xa_worker.Work.{WorkState, theirs}
@@ -50,7 +49,7 @@ use Rattle.xa_history.proofs.Left.{same_homes, each_left, has_left as desk_has_l
 use Rattle.xa_history.proofs.Going.{one_goes_on}
 use Rattle.xa_history.proofs.Crew.{desks_are_crew}
 use Rattle.xa_history.proofs.Homes.{homes_met, takes_next, saw_new}
-use Rattle.xa_history.proofs.Clients.{noted_is, made_own}
+use Rattle.xa_history.proofs.Callers.{noted_is, made_in_merge}
 use Rattle.xa_history.proofs.Configured.{a_server}
 use Rattle.xa_history.proofs.Gone.{not_both}
 use Rattle.xa_history.proofs.Deserting.{in_the_end, swept_in_the_end, not_all_left, LeftOthers as LeftInFront}
@@ -80,11 +79,6 @@ is_some P None holds = absurd holds
 is_some P (Some x) holds = (x, refl, holds)
 
 -- ---- what a desk shows of its caller
-
-over : (ops : List Op) (newest : Option Event) → accepted_in newest ≡ None → awaits_answer ops newest ≡ false
-over ops None is = refl
-over ops (Some (Accept a)) is = absurd (cc is)
-over ops (Some _) is = refl
 
 left_among : (client : ℕ) (own : List Stamped) (x : Stamped) → Contains own x → is_leave_of client x.event ≡ true → has_left client (past_in own) ≡ true
 unfolding has_left
@@ -247,14 +241,7 @@ module _ (d : Domain) (b : Back) (domain : WorkState) (desks : List Desk) (serve
     made_its_calls client ops some low made =
         let all = ends.left in
         let its = is_some (HasMadeAll d ops) (numbered client desks) made in
-        let desk = its.0 in
-        let same = its_own d b domain desks all client desk its.1 ∙ ap (λ (l : List Stamped). worker_events d.clients client (past_in l)) (noted_is domain desks client desk its.1) in
-        let id = all.ids client desk its.1 in
-        let last = ap (λ n. last_op n (theirs desk.caller.work)) (sym id) ∙ its.2.made.last in
-        let answered = over ops (newest_call client (theirs desk.caller.work)) (ap (λ n. accepted_in (newest_call n (theirs desk.caller.work))) (sym id) ∙ its.2.made.over) in
-        client_made_calls d.setup d.clients (workers_of d.setup d.clients) (kept_of b) noted_by (desks_are_crew d b domain desks all) (names d b domain desks all) homes events (names_are d b domain desks all homes ends.homes_are) merged (homes_met d b domain desks all) client
-        (omega (arith, some)) (let count = whole.clients in omega (arith, low, count)) ops
-        (made_own d b domain desks all client desk its.1 ops its.2.fits (ap (last_op client) (sym same) ∙ last) (ap (λ l. awaits_answer ops (newest_call client l)) (sym same) ∙ answered))
+        made_in_merge d b domain desks all homes events ends.homes_are merged client its.0 its.1 ops its.2.fits its.2.made.last its.2.made.over
 
     pub is_history : (clients : List Client) → calls ≡ map (λ (c : Client). c.ops) clients → IsHistory d.setup clients events
     is_history clients are =

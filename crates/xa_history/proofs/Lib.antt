@@ -5,7 +5,6 @@ pub mod Going
 pub mod Crew
 pub mod Homes
 pub mod Stamps
-pub mod Clients
 pub mod Recorded
 pub mod Merged
 pub mod Configured
@@ -17,6 +16,7 @@ pub mod Behind
 pub mod Numbered
 pub mod Readings
 pub mod Own
+pub mod Callers
 pub mod Shown
 pub mod Sent
 pub mod Entries

@@ -1,53 +1,48 @@
 -- A life of a server, by its worker's own list, in the run.
-use Rattle.std.proofs.Common.{◌≡◌, ℕ, ◌+◌, ◌<◌, ◌%◌, ◌^◌, ◌==◌, true, cond, List, [], ◌∷◌, ◌++◌, map, reverse, append-nil, sym, ◌∙◌, ap, subst, arith, eqb-true}
-use Rattle.std.specs.Prelude.{take, drop}
+use Rattle.std.proofs.Common.{◌≡◌, ℕ, ◌+◌, ◌<◌, true, List, ◌++◌, map, reverse, append-nil, sym, ◌∙◌, ap, subst, arith}
 use Rattle.std.specs.List.{All}
 use Rattle.std.proofs.lemmas.List.{length-map}
-use Rattle.std.proofs.lemmas.Bool.{and_parts}
-use Rattle.std.proofs.lemmas.List.Elements.{All-weaker, filter-append}
+use Rattle.std.proofs.lemmas.List.Elements.{All-weaker}
 use Rattle.xa_client_worker.specs.xa_types.Setup.{queue_of}
+use Rattle.xa_client_worker.specs.xa_events.Caller.{is_call_of}
+use Rattle.xa_client_worker.specs.xa_events.Calls.{MadeCalls}
 use Rattle.xa_client_worker.specs.xa_events.Cases.{IsShut}
 use Rattle.xa_client_worker.specs.xa_events.declared.event.Event.{Event}
-use Rattle.xa_client_worker.specs.xa_events.declared.event.Event.TheVariants.{Take}
-use Rattle.xa_client_worker.specs.xa_events.declared.event.Taken.{Taken}
 use Rattle.xa_client_worker.specs.xa_events.Homes.{of_worker}
 use Rattle.xa_client_worker.specs.xa_events.Homes.Home.{QueueHome}
 use Rattle.xa_client_worker.specs.xa_events.Local.{worker_events}
 use Rattle.xa_client_worker.specs.xa_events.Queue.{is_closed}
-use Rattle.xa_client_worker.specs.xa_events.Request.{sent_as}
+use Rattle.xa_client_worker.specs.xa_events.Server.{moves_server}
 use Rattle.xa_client_worker.specs.xa_events.State.{caller_of}
 use Rattle.xa_client_worker.specs.xa_events.Words.{AtEach, EachNumbered}
-use Rattle.xa_client_worker.proofs.xa_events.Merge.{AtEach-here}
 use Rattle.xa_client_worker.specs.xa_stamp.declared.home.Stamped.{Stamped}
 use Rattle.xa_client_worker.specs.xa_stamp.Home.{Notes}
 use Rattle.xa_client_worker.specs.xa_stamp.Merge.{IsMerged}
 use Rattle.xa_client_worker.specs.xa_lock.Makers.{noted_in}
 use Rattle.xa_client_worker.specs.xa_worker.Seen.{SawFront, SawQueue}
-use Rattle.xa_client_worker.proofs.xa_worker.Lists.{AtEach-later}
-use Rattle.xa_client_worker.specs.xa_held.declared.cargo.Invocation.{Invocation}
-use Rattle.xa_client_worker.specs.xa_frame.declared.frame.Frame.{Frame}
+use Rattle.xa_client_worker.proofs.xa_worker.Calls.{call_of_worker}
 use Rattle.xa_client_worker.specs.xa_pipe.declared.turn.Turn.TheVariants.{AwaitsInvoke}
 use Rattle.xa_client_worker.specs.xa_pipe.Following.{is_of, IsSent, IsBorneOut, StandsIn}
-use Rattle.xa_client_worker.specs.xa_pipe.Life.{Reasons, StopsClosed, stops_life}
-use Rattle.xa_client_worker.specs.xa_pipe.Standing.{LifeState, Ending}
+use Rattle.xa_client_worker.specs.xa_pipe.Life.{Reasons, StopsClosed, StopsSpent, stops_life}
+use Rattle.xa_client_worker.specs.xa_pipe.Standing.{LifeState, Ending, invokes_of}
 use Rattle.xa_client_worker.proofs.xa_pipe.Followed.{is_life}
 use Rattle.xa_client_worker.specs.xa_worker.Work.{WorkState, theirs}
 use Rattle.xa_client_worker.specs.xa_desk.declared.domain.Domain.{Domain}
 use Rattle.xa_client_worker.specs.xa_desk.declared.desk.Desk.{Desk}
 use Rattle.xa_client_worker.specs.xa_desk.Whole.{entries_of}
-use Rattle.xa_client_worker.specs.xa_desk.Serving.{WasSentFor, IsSentFor}
 use Rattle.xa_server_worker.specs.Reasons.{ShowsReason}
-use Rattle.xa_server_worker.specs.Lives.{lives_in, HasStarted, IsLived}
+use Rattle.xa_server_worker.specs.Lives.{calls_of_all, lives_in, HasStarted, IsLived}
 use Rattle.xa_history.specs.Joined.{Back, whole_of, kept_of, noted_of}
 use Rattle.xa_history.specs.Ended.{ServerEnd, Ends}
 use Rattle.xa_history.specs.Served.{generations_of, lives_of as its_lives, IsAsked, IsLifeOf, IsStarterOf, IsCarried}
+use Rattle.xa_history.proofs.Callers.{made_in_merge}
 use Rattle.xa_history.proofs.Going.{one_goes_on}
 use Rattle.xa_history.proofs.Homes.{saw_new}
 use Rattle.xa_history.proofs.Left.{same_homes}
 use Rattle.xa_history.proofs.Requests.{closed_before, fails_before}
 use Rattle.xa_history.proofs.Numbered.{each_from, each_map}
 use Rattle.xa_history.proofs.Own.{is_worker, its_noted}
-use Rattle.xa_history.proofs.Readings.{of_life, stop_of_life}
+use Rattle.xa_history.proofs.Readings.{of_life, of_moved, spent_own, stop_of_life}
 use Rattle.xa_history.proofs.Shown.{Shown, shown}
 use Rattle.xa_history.proofs.Asked.{takes_sent}
 use Rattle.xa_history.proofs.SoFar.{of_starts, of_lives, of_asked}
@@ -88,6 +83,11 @@ module _ (d : Domain) (b : Back) (domain : WorkState) (desks : List Desk) (serve
         (λ (x : Stamped). stops_life server g x.event ≡ true → SawFront (noted_in (kept_of b (QueueHome queue))) x.stamp (λ past. is_closed queue past ≡ true))
         (λ x front stops. let f = saw_new d b domain desks ends.left queue x.stamp (IsShut d.setup queue) (front stops) in record { front = f.front; stands = f.stands; before = f.before; shows = f.shows.closed }) (noted_of domain desks worker) saw)
 
+    spent_before : AtEach (StopsSpent d.clients over.life.server.0 g) own → AtEach (StopsSpent d.clients over.life.server.0 g) past
+    spent_before spent =
+        subst (λ (s : ℕ). AtEach (StopsSpent d.clients s g) past) (sym lived.its) (spent_own d.clients server g d.setup past
+        (subst (λ (s : ℕ). AtEach (StopsSpent d.clients s g) (worker_events d.clients worker past)) lived.its (subst (AtEach (StopsSpent d.clients over.life.server.0 g)) (sym shows.own) spent)))
+
     abbrev Why : Reasons
     Why = ShowsReason d shows.desk
 
@@ -96,10 +96,13 @@ module _ (d : Domain) (b : Back) (domain : WorkState) (desks : List Desk) (serve
       its = of_worker d.clients worker;
       are = sym shows.own;
       among = subst (λ (s : ℕ). (e : Event) → is_of s g e ≡ true → of_worker d.clients worker e ≡ true) (sym lived.its) (of_life d.clients server g);
+      called = subst (λ (s : ℕ). (e : Event) → is_call_of (caller_of d.clients s) e ≡ true → of_worker d.clients worker e ≡ true) (sym lived.its) (call_of_worker d.clients worker);
+      moved = subst (λ (s : ℕ). (e : Event) → moves_server s e ≡ true → of_worker d.clients worker e ≡ true) (sym lived.its) (of_moved d.clients server);
       failed = subst (λ (s : ℕ). AtEach (IsBorneOut d.setup d.clients Why (of_worker d.clients worker) s g) past) (sym lived.its)
           (fails_before d b domain desks ends.left homes events ends.homes_are merged server shows.some shows.desk shows.there g);
-      sent = subst (λ (s : ℕ). AtEach (IsSent s g over.life.asked) past) (sym lived.its) (takes_sent d b domain desks servers homes Whole ends events merged server end shows g over.life.asked lived.handed);
+      sent = subst (λ (s : ℕ). AtEach (IsSent s g (invokes_of over.life)) past) (sym lived.its) (takes_sent d b domain desks servers homes Whole ends events merged server end shows g (invokes_of over.life) lived.handed);
       closed = subst (λ (s : ℕ). over.life.turn ≡ AwaitsInvoke → AtEach (StopsClosed d.setup s g) past) (sym lived.its) shut_before;
+      spent = λ finishing. spent_before (lived.spent finishing);
     }
 
     life_of : IsLifeOf d.setup d.clients past server over
@@ -123,6 +126,11 @@ module _ (d : Domain) (b : Back) (domain : WorkState) (desks : List Desk) (serve
     lives_of : (server : ℕ) (end : ServerEnd) → ShownHere server end → All (IsLifeOf d.setup d.clients past server) end.lives
     lives_of server end its = All-weaker (IsLived d end.shown.name (queue_of d.setup server) server its.desk) (IsLifeOf d.setup d.clients past server) (life_of server end its) end.lives (its.shows.lived whole)
 
+    calls_of : (server : ℕ) (end : ServerEnd) → ShownHere server end → MadeCalls d.setup d.clients (caller_of d.clients server) (calls_of_all end.lives) past
+    calls_of server end its =
+        let called = its.shows.called whole in
+        made_in_merge d b domain desks ends.left homes events ends.homes_are merged (caller_of d.clients server) its.desk its.there (calls_of_all end.lives) called.fits called.last called.over
+
     -- what holds of each server that shows its lives
     by_server : (P : ℕ → ServerEnd → Type 0) → ((server : ℕ) (end : ServerEnd) → ShownHere server end → P server end) → EachNumbered P 1 servers
     by_server P holds = each_from P servers (λ server end there. holds server end (shown d b domain desks servers homes Whole ends events merged server end there))
@@ -136,5 +144,6 @@ module _ (d : Domain) (b : Back) (domain : WorkState) (desks : List Desk) (serve
         asked = each_map (λ server its. All (IsAsked server past) (its_lives its)) (λ (x : ServerEnd). x.lives) 1 servers (by_server (λ server end. All (IsAsked server past) (its_lives end.lives)) all_asked);
       };
       pipes = each_map (λ server its. All (IsLifeOf d.setup d.clients past server) its) (λ (x : ServerEnd). x.lives) 1 servers (by_server (λ server end. All (IsLifeOf d.setup d.clients past server) end.lives) lives_of);
+      calls = each_map (λ server its. MadeCalls d.setup d.clients (caller_of d.clients server) (calls_of_all its) past) (λ (x : ServerEnd). x.lives) 1 servers (by_server (λ server end. MadeCalls d.setup d.clients (caller_of d.clients server) (calls_of_all end.lives) past) calls_of);
       each = by_server (λ server end. IsStarterOf d.setup server end.shown past) starter_of;
     }

@@ -1,7 +1,6 @@
 -- Of a server's worker the merge has what it noted.
 use Rattle.std.proofs.Common.{◌≡◌, ℕ, zero, suc, ◌+◌, ◌<◌, List, reverse, Option, Some, sym, ◌∙◌, ap, arith}
-use Rattle.std.specs.Prelude.{option_map, length}
-use Rattle.std.proofs.lemmas.Option.{slice_get_within}
+use Rattle.std.specs.Prelude.{option_map}
 use Rattle.xa_client_worker.specs.xa_types.Setup.{numbered}
 use Rattle.xa_client_worker.specs.xa_events.declared.event.Event.{Event}
 use Rattle.xa_client_worker.specs.xa_events.Local.{worker_events}
@@ -18,17 +17,14 @@ use Rattle.xa_client_worker.specs.xa_desk.declared.desk.Desk.{Desk}
 use Rattle.xa_history.specs.Joined.{Back, AllLeft, kept_of, noted_of}
 use Rattle.xa_history.proofs.Crew.{desks_are_crew}
 use Rattle.xa_history.proofs.Left.{has_left}
+use Rattle.xa_history.proofs.Numbered.{numbered_within}
 use Rattle.xa_history.proofs.Recorded.{names, names_are}
 use Rattle.xa_history.specs.Served.{HoldAll}
-
-numbered_within : {X : Type 0} (n : ℕ) (xs : List X) (x : X) → numbered n xs ≡ Some x → n < length xs + 1
-numbered_within zero xs x there = absurd (cc there)
-numbered_within (suc k) xs x there = let low = slice_get_within xs k x there in omega (arith, low)
 
 module _ (d : Domain) (b : Back) (domain : WorkState) (desks : List Desk) (left : AllLeft d b domain desks) where
   -- a caller that has a desk is one of the workers, and noted what its desk has
   pub is_worker : (worker : ℕ) (desk : Desk) → numbered worker desks ≡ Some desk → worker < workers_of d.setup d.clients
-  is_worker worker desk there = let low = numbered_within worker desks desk there in let count = left.count in omega (arith, low, count)
+  is_worker worker desk there = let low = (numbered_within worker desks desk there).1 in let count = left.count in omega (arith, low, count)
 
   pub its_noted : (worker : ℕ) (desk : Desk) → 0 < worker → numbered worker desks ≡ Some desk → noted_of domain desks worker ≡ desk.caller.work.own
   its_noted zero desk some there = absurd (cc there)

@@ -1,5 +1,5 @@
 -- What the worker of each server shows, beside the merge.
-use Rattle.std.proofs.Common.{◌≡◌, ℕ, ◌+◌, ◌<◌, List, map, reverse, Option, Some, None, sym, ◌∙◌, ap}
+use Rattle.std.proofs.Common.{◌≡◌, ℕ, ◌+◌, ◌<◌, List, reverse, Option, Some, None, sym, ◌∙◌, ap}
 use Rattle.std.specs.Prelude.{option_map, IsSomeAnd}
 use Rattle.xa_client_worker.specs.xa_types.declared.setup.ServerSetup.{ServerSetup}
 use Rattle.xa_client_worker.specs.xa_types.Setup.{numbered, queue_of}

@@ -1,15 +1,12 @@
 -- The lives and the starts of each server, by the merge.
-use Rattle.std.proofs.Common.{◌≡◌, ℕ, ◌+◌, ◌<◌, List, ◌++◌, length, map, reverse, Option, Some, None, sym, ◌∙◌, ap, subst, arith}
-use Rattle.std.specs.Prelude.{option_map, IsSomeAnd}
+use Rattle.std.proofs.Common.{◌≡◌, ℕ, ◌+◌, List, ◌++◌, length, map, reverse, Some, sym, ◌∙◌, ap, subst, arith}
+use Rattle.std.specs.Prelude.{option_map}
 use Rattle.std.specs.List.{All}
 use Rattle.std.proofs.lemmas.List.{length-map}
 use Rattle.std.proofs.lemmas.List.Elements.{All-weaker}
-use Rattle.xa_client_worker.specs.xa_types.declared.setup.ServerSetup.{ServerSetup}
 use Rattle.xa_client_worker.specs.xa_types.Setup.{numbered, queue_of}
 use Rattle.xa_client_worker.specs.xa_events.declared.event.Event.{Event}
-use Rattle.xa_client_worker.specs.xa_events.Local.{worker_events}
 use Rattle.xa_client_worker.specs.xa_events.Server.{starts}
-use Rattle.xa_client_worker.specs.xa_events.State.{caller_of}
 use Rattle.xa_client_worker.specs.xa_events.Words.{EachNumbered, count}
 use Rattle.xa_client_worker.specs.xa_stamp.Home.{Notes}
 use Rattle.xa_client_worker.specs.xa_stamp.Merge.{IsMerged}

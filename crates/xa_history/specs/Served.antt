@@ -1,5 +1,5 @@
 -- What a run of a domain comes to: where its events are recorded, and what they, its lives and its starters say (this project's own).
-use Rattle.std.specs.Prelude.{◌≡◌, ◌⊎◌, ℕ, ◌+◌, ◌<◌, ◌≤◌, ◌^◌, ◌==◌, ◌&&◌, Bool, List, [], ◌∷◌, ◌++◌, length, map, reverse, Option, Some, None}
+use Rattle.std.specs.Prelude.{◌≡◌, ◌⊎◌, ℕ, ◌+◌, ◌<◌, ◌≤◌, ◌^◌, ◌==◌, ◌&&◌, if◌then◌else◌, Bool, List, [], ◌∷◌, ◌++◌, length, map, reverse, Option, Some, None}
 use Rattle.std.specs.List.{All, Contains, flat_map}
 use Rattle.xa_client_worker.specs.xa_types.declared.ids.Generation.{Generation}
 use Rattle.xa_client_worker.specs.xa_types.declared.setup.ServerSetup.{ServerSetup}
@@ -12,8 +12,9 @@ use Rattle.xa_client_worker.specs.xa_events.Homes.{Home, home_of, of_worker, all
 use Rattle.xa_client_worker.specs.xa_events.Laws.{LawOfEnds, LawOfAnswers, LawOfVersions, LawOfServers}
 use Rattle.xa_client_worker.specs.xa_events.Order.{TakesInOrder}
 use Rattle.xa_client_worker.specs.xa_events.Run.{Run, IsFinal}
+use Rattle.xa_client_worker.specs.xa_events.Request.{sent_as}
 use Rattle.xa_client_worker.specs.xa_events.Server.{starts}
-use Rattle.xa_client_worker.specs.xa_events.State.{opening}
+use Rattle.xa_client_worker.specs.xa_events.State.{opening, caller_of}
 use Rattle.xa_client_worker.specs.xa_events.Words.{EachNumbered, count, from_each}
 use Rattle.xa_client_worker.specs.xa_stamp.declared.home.Stamped.{Stamped}
 use Rattle.xa_client_worker.specs.xa_stamp.Home.{Notes, Rises}
@@ -26,12 +27,12 @@ use Rattle.xa_client_worker.specs.xa_worker.declared.work.Halt.TheVariants.{NoMe
 use Rattle.xa_client_worker.specs.xa_caller.declared.cargo.Filling.{Filling}
 use Rattle.xa_script.specs.declared.script.Client.{Client}
 use Rattle.xa_client_worker.specs.xa_frame.declared.frame.Frame.{Frame}
-use Rattle.xa_client_worker.specs.xa_pipe.Frames.{written_at}
-use Rattle.xa_client_worker.specs.xa_pipe.Standing.{LifeState, Ending, IsLife}
+use Rattle.xa_client_worker.specs.xa_pipe.Frames.{is_of_life, invocation, invoke_with}
+use Rattle.xa_client_worker.specs.xa_pipe.Standing.{LifeState, Ending, IsLife, invokes_of}
 use Rattle.xa_client_worker.specs.xa_server.Served.{StarterShows}
 use Rattle.xa_client_worker.specs.xa_desk.declared.domain.Domain.{Domain}
 use Rattle.xa_client_worker.specs.xa_desk.Made.{IsMade}
-use Rattle.xa_server_worker.specs.Lives.{lives_in, failed_starts, HasStarted, HasStartedSoFar, IsCut}
+use Rattle.xa_server_worker.specs.Lives.{calls_of_all, lives_in, failed_starts, HasStarted, HasStartedSoFar, IsCut}
 use Rattle.xa_history.specs.Joined.{Back}
 use Rattle.xa_history.specs.Told.{AreTold}
 

@@ -43,10 +43,10 @@ pub fn stamps_are_next()
         → (worker : ℕ) → worker < workers_of d.setup d.clients → All (λ (x : Stamped). IsNextStamp (λ home. noted_in (kept_of b home)) x.stamp) (noted_of domain desks worker) }
 {}
 
-/// A client whose desk shows that each of its events fits a call, and which came to its last one, made its calls by its own
+/// A caller whose desk shows that each of its events fits a call, and which came to its last one, made its calls by its own
 /// events and by what it saw.
-pub fn client_made_its_own()
-    ensures { (d : Domain) (b : Back) (domain : WorkState) (desks : List Desk) → AllLeft d b domain desks → (client : ℕ) (desk : Desk) → numbered client desks ≡ Some desk → (ops : List Op) → FitsCalls d ops desk
-        → last_op client (worker_events d.clients client (past_in desk.caller.work.own)) ≡ length ops → awaits_answer ops (newest_call client (worker_events d.clients client (past_in desk.caller.work.own))) ≡ false
-        → MadeOwn d.setup d.clients (λ home. noted_in (kept_of b home)) client ops (noted_of domain desks client) }
+pub fn caller_made_its_own()
+    ensures { (d : Domain) (b : Back) (domain : WorkState) (desks : List Desk) → AllLeft d b domain desks → (caller : ℕ) (desk : Desk) → numbered caller desks ≡ Some desk → (ops : List Op) → FitsCalls d ops desk
+        → last_op caller (worker_events d.clients caller (past_in desk.caller.work.own)) ≡ length ops → awaits_answer ops (newest_call caller (worker_events d.clients caller (past_in desk.caller.work.own))) ≡ false
+        → MadeOwn d.setup d.clients (λ home. noted_in (kept_of b home)) caller ops (noted_of domain desks caller) }
 {}

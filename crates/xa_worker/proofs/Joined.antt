@@ -237,8 +237,8 @@ module _ (setup : Setup) (clients workers : ℕ) (kept : Home → List Made) (no
     its_noted : (worker : ℕ) → 0 < worker → worker < workers → filter (λ (x : Stamped). of_worker clients worker x.event) the_merge.0 ≡ filter (λ (x : Stamped). of_worker clients worker x.event) (noted worker)
     its_noted worker some low = its_own setup clients workers kept noted crew events the_merge.0 the_merge.1 worker some low
 
-    pub client_made_calls : AllMet setup kept → (caller : ℕ) → 0 < caller → caller < workers → (ops : List Op) → MadeOwn setup clients held caller ops (noted caller) → MadeCalls setup clients caller ops (reverse events)
-    client_made_calls met caller some low ops made =
+    pub caller_made_calls : AllMet setup kept → (caller : ℕ) → 0 < caller → caller < workers → (ops : List Op) → MadeOwn setup clients held caller ops (noted caller) → MadeCalls setup clients caller ops (reverse events)
+    caller_made_calls met caller some low ops made =
         subst (MadeCalls setup clients caller ops) (ap reverse the_merge.1.events)
         (made_calls setup clients held the_merge.0 events the_merge.1 (all_cases_of met) (local_all met).1 (crew.homes ClockHome).first.0 (mounts (crew.homes ClockHome).first (held ClockHome) (crew.homes ClockHome).rises) caller ops (noted caller) (its_noted caller some low) made)
 

@@ -104,7 +104,7 @@ pub fn crew_is_run()
 {}
 
 /// A caller made its calls by all events where it did by its own and by what it saw and was told.
-pub fn client_made_calls()
+pub fn caller_made_calls()
     ensures { (setup : Setup) (clients workers : ℕ) (kept : Home → List Made) (noted : ℕ → List Stamped) (names : List Home) (homes : List Notes) (events : List Event) → IsCrew setup clients workers kept noted → AllMet setup kept → AreHomes names kept homes → IsMerged homes events
         → (caller : ℕ) → 0 < caller → caller < workers → (ops : List Op) → MadeOwn setup clients (λ home. noted_in (kept home)) caller ops (noted caller) → MadeCalls setup clients caller ops (reverse events) }
 {}
