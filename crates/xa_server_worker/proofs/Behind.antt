@@ -181,7 +181,7 @@ module _ (old new : Desk) where
   pub calm_called : (rest : List Stamped) → own' ≡ own ++ rest → ((k : ℕ) → (at k (known new.caller.seat)).filled ≡ (at k (known old.caller.seat)).filled) → All (λ (x : Stamped). ends_by x.event false ≡ false) rest → IsCalm old → IsCalm new
   calm_called rest is fills ends calm = (
     (λ k. subst (λ (l : List Stamped). All (FilledBehind ⊥ ⊤ l) (at k (known new.caller.seat)).filled) (sym {A = List Stamped} is)
-    (subst (All (FilledBehind ⊥ ⊤ (own ++ rest))) (sym (fills k)) (all_behind own (own ++ rest) (known old.caller.seat) (λ stamp behind. behind_more own rest stamp (λ any. none_first rest ends) behind) calm.0 k))),
+        (subst (All (FilledBehind ⊥ ⊤ (own ++ rest))) (sym (fills k)) (all_behind own (own ++ rest) (known old.caller.seat) (λ stamp behind. behind_more own rest stamp (λ any. none_first rest ends) behind) calm.0 k))),
     ap (λ (l : List Stamped). is_ending (past_in l)) is ∙ still_ending own rest calm.1 ends,
   )
     where

@@ -309,22 +309,25 @@ module _ {L T : Type 0} {d : Domain} {shows : T → StarterShows} (w : ServerWor
 
       by : (b : Bool) → (op == 2 ^ 32 - 1) ≡ b → (turn : Turn) × IsServed d shows turn t (if b then spent life else life) w
       by false other = (Serving, served)
-      by true last = (Finishing, record {
-        busy = record {
-          is = record {
-            at = at_still life.asked becomes busy.is.at;
-            last = last_still life.asked becomes busy.is.last;
-            going = record { follows = follows_spent d.setup d.clients life (own_of w) busy.is.going.follows; handed = busy.is.going.handed };
-            does = busy.is.does;
-            turns = refl;
-            asked = busy.is.asked;
-            room = busy.is.room;
+      by true last = (
+        Finishing,
+        record {
+          busy = record {
+            is = record {
+              at = at_still life.asked becomes busy.is.at;
+              last = last_still life.asked becomes busy.is.last;
+              going = record { follows = follows_spent d.setup d.clients life (own_of w) busy.is.going.follows; handed = busy.is.going.handed };
+              does = busy.is.does;
+              turns = refl;
+              asked = busy.is.asked;
+              room = busy.is.room;
+            };
+            taken = busy.taken;
           };
-          taken = busy.taken;
-        };
-        acts = refl;
-        spent = λ finishing. sym is ∙ eqb-true op (2 ^ 32 - 1) last;
-      })
+          acts = refl;
+          spent = λ finishing. sym is ∙ eqb-true op (2 ^ 32 - 1) last;
+        },
+      )
 
   -- it asks for a call
   pub asks_in : (new old : LifeState) (turn : Turn) (t : Taken) (op : Op) → Heard (op_frame (tag_of old) op) new old → w.desk.caller.op < 2 ^ 32 - 1 → IsServed d shows turn t old w → IsCalling d shows op t new w

@@ -37,21 +37,14 @@ none_noted clients caller own none = ap (λ (l : List Stamped). worker_events cl
 
 -- and made no call
 none_called : {d : Domain} (desk : Desk) → desk.caller.work.own ≡ [] → HasCalled d [] desk
+unfolding newest_call
 none_called {d} desk none =
     let own : theirs desk.caller.work ≡ [] = none_noted desk.caller.work.clients desk.caller.work.id.0 desk.caller.work.own none in
     record {
-      last = no_calls_made desk.caller.work.id.0 (theirs desk.caller.work) own;
-      over = none_accepted desk.caller.work.id.0 (theirs desk.caller.work) own;
-      fits = λ more whole on. subst (FitEach d.setup d.clients (entries_of whole) desk.caller.work.id.0 more) (sym none) tt;
+      last = ap (last_op desk.caller.work.id.0) own;
+      over = ap (just_accepted desk.caller.work.id.0) own;
+      fits = λ more whole on. subst (FitEach d.setup d.clients (entries_of whole) desk.caller.work.id.0 more) (sym {A = List Stamped} none) tt;
     }
-  where
-    no_calls_made : (caller : ℕ) (own : List Event) → own ≡ [] → last_op caller own ≡ 0
-    unfolding newest_call
-    no_calls_made caller own is = ap (last_op caller) is
-
-    none_accepted : (caller : ℕ) (own : List Event) → own ≡ [] → just_accepted caller own ≡ None
-    unfolding newest_call
-    none_accepted caller own is = ap (just_accepted caller) is
 
 -- why it stopped is noted
 pub goes_stopped : {L T : Type 0} {d : Domain} (old w : ServerWorker L T) (why : Option Stopped) → Goes d old w → Goes d old (record w { stopped = why })

@@ -56,21 +56,20 @@ fn reply<L: Link>(desk: &Desk, life: Life<L>, told: Told) -> Result<Life<L>, End
     }
 }
 
-impl<L: Link, T: Starter<L>> ServerWorker<L, T> {
-    // Hears how the service goes on. Once the server's calls came to their end it may ask for none.
-    fn hear(&self, life: Life<L>) -> Result<Acted<L>, EndedLife<L>>
-        requires { life.turn ≡ Serving }
-        ensures heard { IfOk result (λ a. Heard (act_frame (tag_of (called_out self.now.desk.caller.op life)) a.act) a.life (called_out self.now.desk.caller.op life)) }
-        ensures over { IfErr result (λ over. Fell over (called_out self.now.desk.caller.op life)) }
-    {
-        let life = if self.desk.caller.op() == u32::MAX {
-            life.spend()
-        } else {
-            life
-        };
-        life.hear()
+// Hears how the service goes on, whose server made its last call with that number: once that is the last of all it may ask
+// for none.
+fn hear<L: Link>(life: Life<L>, last: u32) -> Result<Acted<L>, EndedLife<L>>
+    requires { life.turn ≡ Serving }
+    ensures heard { IfOk result (λ a. Heard (act_frame (tag_of (called_out last life)) a.act) a.life (called_out last life)) }
+    ensures over { IfErr result (λ over. Fell over (called_out last life)) }
+{
+    if last == u32::MAX {
+        return life.spend().hear();
     }
+    life.hear()
+}
 
+impl<L: Link, T: Starter<L>> ServerWorker<L, T> {
     // Makes the call that the service asks for, and tells it what came of that. Where memory runs out before anything was
     // noted the life ends.
     fn call<W: Wait, G: Gate>(
@@ -85,17 +84,16 @@ impl<L: Link, T: Starter<L>> ServerWorker<L, T> {
         ensures attended { IfOk result (λ attended. (t : Taken) × AttendedAs monitor.now.domain.now T.shows t attended self.new) }
         ensures halted { IfErr result (λ stopped. HasEnded monitor.now.domain.now T.shows (Some stopped) self.new) }
     {
+        let _before = self.desk.caller.id();
         let number = self.desk.caller.op() + 1;
-        match perform(monitor, &mut self.desk, number, op) {
-            Ok(told) => {
-                let _itself = self.desk.caller.id();
-                match reply(&self.desk, life, told) {
-                    Ok(life) => Ok(Attended::Going(life)),
-                    Err(over) => Ok(Attended::Died(over)),
-                }
-            }
+        let performed = perform(monitor, &mut self.desk, number, op);
+        let _behind = self.desk.caller.id();
+        match performed {
+            Ok(told) => match reply(&self.desk, life, told) {
+                Ok(life) => Ok(Attended::Going(life)),
+                Err(over) => Ok(Attended::Died(over)),
+            },
             Err(stopped) => {
-                let _itself = self.desk.caller.id();
                 if is_want(stopped) {
                     return Ok(Attended::Died(life.starve()));
                 }
@@ -118,7 +116,8 @@ impl<L: Link, T: Starter<L>> ServerWorker<L, T> {
         ensures halted { IfErr result (λ stopped. HasEnded monitor.now.domain.now T.shows (Some stopped) self.new) }
     {
         let _itself = self.desk.caller.id();
-        match self.hear(life) {
+        let last = self.desk.caller.op();
+        match hear(life, last) {
             Ok(Acted { life, act }) => match act {
                 Act::Calls(op) => self.call(monitor, life, &op),
                 Act::Ends(back) => Ok(Attended::Done(life, back)),

@@ -10,12 +10,14 @@ died-requires-clause-may g c = unsent_dies c.args.self.now c.args.life c.require
 pub attend-requires-clause-served : goal.attend-requires-clause-served
 attend-requires-clause-served g c = λ κs within.
     let w = c.args.self.now in
-    let has = c.requires.taken in
-    (has.t, record {
-      busy = record {
-        is = sent_in w c.args.life has c.invocation-asked.result.now c.invocation-asked.ensures c.in-Ok.life c.in-Ok.ensures.sent;
-        taken = subst (λ h. IfSome h (IsTaken c.args.monitor.now.domain.now w.queue.0 has.t w.desk)) (sym has.hand) has.taken;
-      };
-      acts = refl;
-      spent = λ finishing. absurd (cc finishing);
-    })
+    let has = c.requires.taken in (
+      has.t,
+      record {
+        busy = record {
+          is = sent_in w c.args.life has c.invocation-asked.result.now c.invocation-asked.ensures c.in-Ok.life c.in-Ok.ensures.sent;
+          taken = subst (λ h. IfSome h (IsTaken c.args.monitor.now.domain.now w.queue.0 has.t w.desk)) (sym has.hand) has.taken;
+        };
+        acts = refl;
+        spent = λ finishing. absurd (cc finishing);
+      },
+    )
