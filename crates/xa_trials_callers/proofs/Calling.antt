@@ -24,6 +24,7 @@ use Rattle.xa_cell.specs.Places.{Opens, Shuts}
 use Rattle.xa_cell.specs.Views.{at}
 use Rattle.xa_cell.proofs.Lists.{decided}
 use Rattle.xa_queue.specs.declared.entry.Entry.{Entry}
+use Rattle.xa_caller.specs.xa_frame.Spelling.{IsData}
 use Rattle.xa_caller.specs.declared.cargo.Filling.{Filling}
 use Rattle.xa_caller.specs.declared.phase.Draft.{Draft}
 use Rattle.xa_caller.specs.declared.phase.Phase.{Phase}
@@ -51,9 +52,9 @@ own_row setup service queue routine row is = row_with_own (service_named setup s
 
 module _ (setup : Setup) (cells : Cells Filling) where
   -- a request that is made is to be put on one of the queues that were found
-  pub drafted : (op last : ℕ) (service : List ℕ) (payload : Data) (found : FoundRows) (made : Made) (new old : CallerState) → op ≡ last + 1 → found.version ≤ 256 → is_sound setup payload ≡ true → AreRowsOf setup service found.rows
+  pub drafted : (op last : ℕ) (service : List ℕ) (payload : Data) (found : FoundRows) (made : Made) (new old : CallerState) → op ≡ last + 1 → found.version ≤ 256 → is_sound setup payload ≡ true → IsData payload → AreRowsOf setup service found.rows
       → IsSeatOf cells new.seat → Stands setup last old → Prepares setup cells op payload found made new old → HasDraft setup cells last found made.entry new
-  drafted op last service payload found made new old turn low sound rows seat s p =
+  drafted op last service payload found made new old turn low sound spelled rows seat s p =
       let of_service = row-service setup service p.row (found-all (λ (row : Row). is_accepted setup row.accepts (kind_of payload)) (λ (row : Row). row ≡ row_for setup service row.queue.0 row.routine) found.rows p.row p.chosen rows) in
       record {
         seat = seat;
@@ -65,6 +66,7 @@ module _ (setup : Setup) (cells : Cells Filling) where
         low = low;
         cell = sym p.began.ticket_cell;
         sound = ap (λ (e : Entry Cargo). is_sound setup e.cargo.invocation.payload) p.entry ∙ sound;
+        spelled = subst (λ (e : Entry Cargo). IsData e.cargo.invocation.payload) (sym p.entry) spelled;
         rows = subst (λ name. AreRowsOf setup name found.rows) (sym (ap (λ (e : Entry Cargo). e.cargo.invocation.service) p.entry ∙ of_service)) rows;
         ticket = p.began.table;
       }
@@ -86,6 +88,7 @@ module _ (setup : Setup) (cells : Cells Filling) where
         low = d.low;
         cell = ap (λ (x : Draft). x.asked.place.cell) same ∙ (d.cell ∙ sym (ap (λ (e : Entry Cargo). e.cargo.ticket.cell) a.entered));
         sound = ap (λ (e : Entry Cargo). is_sound setup e.cargo.invocation.payload) a.entered ∙ d.sound;
+        spelled = subst (λ (e : Entry Cargo). IsData e.cargo.invocation.payload) (sym a.entered) d.spelled;
         rows = subst (λ name. AreRowsOf setup name found.rows) (sym (ap (λ (e : Entry Cargo). e.cargo.invocation.service) a.entered ∙ of_service)) d.rows;
         ticket = subst (λ (e : Entry Cargo). IsTicketOf cells e.cargo.ticket) (sym a.entered) d.ticket;
       }

@@ -7,6 +7,7 @@ use Rattle.xa_events.specs.Caller.{is_client}
 use Rattle.xa_cell.specs.declared.cells.Cells.{Cells}
 use Rattle.xa_cell.specs.Known.{IsSeatOf, IsTicketOf}
 use Rattle.xa_queue.specs.declared.entry.Entry.{Entry}
+use Rattle.xa_caller.specs.xa_frame.Spelling.{IsData}
 use Rattle.xa_caller.specs.declared.cargo.Filling.{Filling}
 use Rattle.xa_caller.specs.declared.phase.Draft.{Draft}
 use Rattle.xa_caller.specs.declared.phase.Phase.TheVariants.{Idle, Prepared}
@@ -40,6 +41,7 @@ pub record HasDraft (setup : Setup) (cells : Cells Filling) (last : ℕ) (found 
   pub low : found.version ≤ 256
   pub cell : draft.asked.place.cell ≡ entry.cargo.ticket.cell
   pub sound : is_sound setup entry.cargo.invocation.payload ≡ true
+  pub spelled : IsData entry.cargo.invocation.payload
   pub rows : AreRowsOf setup entry.cargo.invocation.service found.rows
   pub ticket : IsTicketOf cells entry.cargo.ticket
 
@@ -47,6 +49,6 @@ pub record HasDraft (setup : Setup) (cells : Cells Filling) (last : ℕ) (found 
 abbrev pub IsOut : Setup → Cells Filling → ℕ → CallerState → Type 0
 IsOut setup cells last c = IsSeatOf cells c.seat × Stands setup last c × IsSent c.phase
 
--- that entry was put on a queue, and its ticket isn't spent
+-- that entry was put on a queue, its ticket isn't spent, and its data has a spelling
 abbrev pub Awaits : Setup → Cells Filling → ℕ → Entry Cargo → CallerState → Type 0
-Awaits setup cells last entry c = IsOut setup cells last c × IsTicketOf cells entry.cargo.ticket
+Awaits setup cells last entry c = IsOut setup cells last c × IsTicketOf cells entry.cargo.ticket × IsData entry.cargo.invocation.payload

@@ -7,6 +7,7 @@ ghost use Rattle.xa_cell.specs.Known.{known, IsSeatOf, callers_of};
 ghost use Rattle.xa_cell.specs.Places.{IsShut};
 ghost use Rattle.xa_caller.specs.Caller.{AreRowsOf};
 ghost use Rattle.xa_caller.specs.Unsent.{MayBe};
+ghost use Rattle.xa_caller.specs.xa_frame.Spelling.{IsData};
 ghost use Rattle.xa_trials_callers.specs.Callers.{Rests, HasDraft, IsOut, Awaits};
 
 use std::alloc::Global;
@@ -297,7 +298,8 @@ pub fn give_back<R: Abort>(
 
 // The ticket of a request, and what its cell is filled with.
 fn filling_of(entry: Entry<Cargo>, says: Says, stamp: Stamp) -> (Ticket<Filling>, Filling)
-    requires { stamp.0 ≤ 2 ^ 63 }
+    requires bound { stamp.0 ≤ 2 ^ 63 }
+    requires spelled { IsData entry.cargo.invocation.payload }
     ensures { result.0 ≡ entry.cargo.ticket }
 {
     let Entry {
