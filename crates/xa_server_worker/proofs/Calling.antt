@@ -1,6 +1,6 @@
 -- A service makes a call, and its server's worker goes on behind it.
 use Rattle.std.proofs.Common.{◌≡◌, ◌<◌, ◌≤◌, ◌⊎◌, ℕ, zero, suc, ◌+◌, ◌-◌, ◌%◌, ◌^◌, ◌==◌, ◌&&◌, ◌||◌, Bool, true, false, cond, List, [], ◌∷◌, ◌++◌, map, length, Option, Some, None, inl, inr, refl, sym, ◌∙◌, ap, subst, append-nil, append_assoc, add-one, arith, eq-eqb, eqb-true, if◌then◌else◌}
-use Rattle.std.specs.Prelude.{⊤, reverse, nat_lt, IfSome, IsSomeAnd, slice_get, slice_index_or}
+use Rattle.std.specs.Prelude.{⊤, Result, Ok, Err, IfOk, IfErr, reverse, nat_lt, IfSome, IsSomeAnd, slice_get, slice_index_or}
 use Rattle.std.specs.List.{All, filter, list_any, flat_map}
 use Rattle.std.proofs.lemmas.Bool.{cases_Bool, false≢true, and_from, and_parts, lt-ltb}
 use Rattle.std.proofs.lemmas.List.{length-append}
@@ -92,6 +92,16 @@ use Rattle.xa_server_worker.proofs.Lasting.{at_desk, number_of, starts_count, st
 use Rattle.xa_server_worker.proofs.Deaths.{death_in}
 use Rattle.xa_server_worker.proofs.Exchanges.{Becomes, link_becomes, at_still, last_still, handed_still, acting_turn, own_of}
 use Rattle.xa_server_worker.proofs.Stepping.{still_steps}
+
+-- ---- what a call of the life answers
+
+pub ok_weaker : {A E : Type 0} (P Q : A → Type 0) → ((a : A) → P a → Q a) → (r : Result A E) → IfOk r P → IfOk r Q
+ok_weaker P Q more (Ok a) is = more a is
+ok_weaker P Q more (Err e) is = tt
+
+pub err_weaker : {A E : Type 0} (P Q : E → Type 0) → ((e : E) → P e → Q e) → (r : Result A E) → IfErr r P → IfErr r Q
+err_weaker P Q more (Ok a) is = tt
+err_weaker P Q more (Err e) is = more e is
 
 -- ---- the calls of a server
 
@@ -215,11 +225,11 @@ some_server (suc n) xs P some = omega arith
 none_gone : (server : ℕ) (past : List Event) → is_gone server past ≡ false → count (is_gone_of server) past ≡ 0
 unfolding is_gone
 none_gone server [] none = refl
-none_gone server (e ∷ past) none = by (is_gone_of server e) refl
+none_gone server (e ∷ past) none = by (is_gone_of server e) refl (none_gone server past)
   where
-    by : (b : Bool) → is_gone_of server e ≡ b → count (is_gone_of server) (e ∷ past) ≡ 0
-    by true is = absurd (cc (sym none ∙ ap (λ (b : Bool). b || list_any (is_gone_of server) past) is))
-    by false is = ap (λ (b : Bool). cond b (count (is_gone_of server) past + 1) (count (is_gone_of server) past)) is ∙ none_gone server past (sym (ap (λ (b : Bool). b || list_any (is_gone_of server) past) is) ∙ none)
+    by : (b : Bool) → is_gone_of server e ≡ b → (is_gone server past ≡ false → count (is_gone_of server) past ≡ 0) → count (is_gone_of server) (e ∷ past) ≡ 0
+    by true is rest = absurd (cc (sym none ∙ ap (λ (b : Bool). b || list_any (is_gone_of server) past) is))
+    by false is rest = ap (λ (b : Bool). cond b (count (is_gone_of server) past + 1) (count (is_gone_of server) past)) is ∙ rest (sym (ap (λ (b : Bool). b || list_any (is_gone_of server) past) is) ∙ none)
 
 gone_own : (clients worker server : ℕ) → clients + server ≡ worker → (e : Event) → is_gone_of server e ≡ true → of_worker clients worker e ≡ true
 gone_own clients worker server number (Gone s) his = eq-eqb (clients + s.0) worker (ap (λ n. clients + n) (eqb-true s.0 server his) ∙ number)
@@ -492,7 +502,7 @@ module _ {L T : Type 0} {d : Domain} {shows : T → StarterShows} (w : ServerWor
             by : (what : Told) → Says what number desk'.caller.work.id.0 (theirs desk'.caller.work) → (reply : Reply) × IsReplyTo what reply desk'
             by tells.Done says = (replies.Done, refl)
             by (tells.Fault fault) says = (replies.Fault fault, refl)
-            by tells.Answered says = (replies.Answered 0 says.0.answer, says.0, newest_of says.0 says.1 says.2 says.4, refl)
+            by tells.Answered says = (replies.Answered 0 says.0.answer, (says.0, newest_of says.0 says.1 says.2 says.4, refl))
 
         handed_after : AtEach (IsHanded life.server.0 life.generation.0 (invokes_of life) (IsSentFor d w.queue.0 desk')) (more ++ own_of w)
         handed_after =
@@ -662,7 +672,7 @@ module _ {L T : Type 0} {d : Domain} {shows : T → StarterShows} (w : ServerWor
             } in
             let lives_same : lives_in s own' ≡ lives_in s (own_of w) = ap (lives_in s) steps_partly.own ∙ ap reverse (skip_map (generation_in s) events (own_of w) (so_each (λ e. generation_in s e ≡ None) (call_no_start caller number s))) in
             let failed : failed_starts s own' ≡ failed_starts s (own_of w) = ap (failed_starts s) steps_partly.own ∙ skip_count (fails_start s) events (own_of w) (so_each (λ e. fails_start s e ≡ false) (call_no_failure caller number s)) in
-            let counted : length (starts s own') ≡ slot.made = ap (λ (l : List Event). length (starts s l)) steps_partly.own ∙ (ap length (starts_skip s events (own_of w) (so_each (λ e. start_in s e ≡ None) (call_starts_none caller number s))) ∙ starts_count its.at.serving) in
+            let counted : length (starts s own') ≡ slot.made = ap (λ (l : List Event). length (starts s l)) steps_partly.own ∙ (ap length (starts_skip s events (own_of w) (so_each (λ e. start_in s e ≡ None) (no_start_in caller number s))) ∙ starts_count its.at.serving) in
             let calm = calm_called w.desk desk' partly.added partly.own goes.fills (All-weaker (λ (x : Stamped). is_op caller number x.event ≡ true) (λ (x : Stamped). ends_by x.event false ≡ false) (λ x op_is. calls_end_none caller number x.event op_is) partly.added partly.each) its.at.told in
             subst (HasEnded d shows (Some stopped)) (sym rest)
             (halts (record after { cut = Some (cut_short life) }) stopped goes.leads.desk (ap (λ n. n + s) goes.same.clients ∙ (number_of its.at.serving ∙ ap (λ i. i.0) (sym goes.same.id))) out.0 its.at.serving.hand counted its.at.named_so
