@@ -24,4 +24,6 @@ pub use Rattle.xa_client_worker.proofs.xa_queue
 pub use Rattle.xa_client_worker.proofs.xa_board
 pub use Rattle.xa_client_worker.proofs.xa_held
 pub use Rattle.xa_client_worker.proofs.xa_buffer
+pub use Rattle.xa_client_worker.proofs.xa_pipe
+pub use Rattle.xa_client_worker.proofs as xa_client_worker
 pub use Rattle.xa_client_worker.proofs.xa_desk

@@ -21,5 +21,6 @@ pub use Rattle.xa_client_worker.specs.xa_held
 pub use Rattle.xa_client_worker.specs.xa_link
 pub use Rattle.xa_client_worker.specs.xa_pipe
 pub use Rattle.xa_client_worker.specs.xa_desk
+pub use Rattle.xa_client_worker.specs.xa_calls
 pub use Rattle.xa_client_worker.specs as xa_client_worker
 pub use Rattle.xa_server_worker.specs as xa_server_worker

@@ -17,3 +17,4 @@ pub use Rattle.xa_desk.specs.xa_frame
 pub use Rattle.xa_desk.specs.xa_link
 pub use Rattle.xa_desk.specs.xa_pipe
 pub use Rattle.xa_desk.specs as xa_desk
+pub use Rattle.xa_calls.specs as xa_calls

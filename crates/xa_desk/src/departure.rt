@@ -1,7 +1,8 @@
 // How a worker leaves its desk.
 ghost use Rattle.std.specs.Prelude.{◌≡◌, None};
+ghost use Rattle.xa_server.specs.xa_cell.Known.{known};
 ghost use Rattle.xa_server.specs.xa_caller.declared.phase.Phase.TheVariants as phases;
-ghost use Rattle.xa_server.specs.xa_caller.Changes.{LeavesAs};
+ghost use Rattle.xa_server.specs.xa_caller.Changes.{LeavesAs, FillsNoMore};
 ghost use Rattle.xa_server.specs.xa_caller.Phases.{IsPrepared};
 ghost use Rattle.xa_desk.specs.declared.desk.Desk.{Desk as Ended};
 ghost use Rattle.xa_desk.specs.Desks.{IsDomain, IsDesk, Leads};
@@ -46,12 +47,13 @@ impl Desk {
         }
     }
 
-    /// Its caller leaves at a halt, and gives up what it waits for.
+    /// Its caller leaves at a halt, and gives up what it waits for. It fills no more cells.
     pub fn abandon(self, domain: &Domain) -> Done
         requires domain { IsDomain domain.now }
         requires desk { IsDesk domain.now self }
         requires out { IsPrepared self.caller.phase → ⊥ }
-        ensures left { (ended : Ended) × IsLeft result ended × Leads domain.now self ended × (ended.caller.work ≡ self.caller.work) × (result.left.halt ≡ None) }
+        ensures left { (ended : Ended) × IsLeft result ended × Leads domain.now self ended × (ended.caller.work ≡ self.caller.work) × (result.left.halt ≡ None)
+            × FillsNoMore (known self.caller.seat) (known ended.caller.seat) }
     {
         let Desk {
             caller,

@@ -44,6 +44,7 @@ use Rattle.xa_domain.specs.Gathered.{IsLeftDesk, home_of_desk, HoldTheirs, IsHal
 use Rattle.xa_domain.specs.Handed.{halt_of, HandsBack}
 use Rattle.xa_domain.specs.Joined.{end_of, IsJoined}
 use Rattle.xa_domain.specs.Leaving.{Leaving, IsLeaving, AreAllTokens, itself_of, leaving_of}
+use Rattle.xa_domain.proofs.Taking.{shows_weaker}
 use Rattle.xa_domain.proofs.Itself.{is_booted, goes_on, is_itself, all_closed}
 
 -- ---- why the run halted
@@ -82,12 +83,12 @@ some_if : (P Q : Desk → Type 0) → ((desk : Desk) → P desk → Q desk) → 
 some_if P Q from None is = absurd is
 some_if P Q from (Some desk) is = from desk is
 
-servers_if : (d : Domain) (desks : List Desk) (V W : Type 0) → (W → V) → (n : ℕ) (servers : List ServerEnd) → EachNumbered (λ k (x : ServerEnd). IsSomeAnd (numbered (d.clients + k) desks) (λ desk. ServerShows d x.shown.name (queue_of d.setup k) k desk x.lives x.cut x.shown V)) n servers
+pub servers_if : (d : Domain) (desks : List Desk) (V W : Type 0) → (W → V) → (n : ℕ) (servers : List ServerEnd) → EachNumbered (λ k (x : ServerEnd). IsSomeAnd (numbered (d.clients + k) desks) (λ desk. ServerShows d x.shown.name (queue_of d.setup k) k desk x.lives x.cut x.shown V)) n servers
     → EachNumbered (λ k (x : ServerEnd). IsSomeAnd (numbered (d.clients + k) desks) (λ desk. ServerShows d x.shown.name (queue_of d.setup k) k desk x.lives x.cut x.shown W)) n servers
 servers_if d desks V W from n [] each = tt
 servers_if d desks V W from n (x ∷ servers) each = (
   some_if (λ desk. ServerShows d x.shown.name (queue_of d.setup n) n desk x.lives x.cut x.shown V) (λ desk. ServerShows d x.shown.name (queue_of d.setup n) n desk x.lives x.cut x.shown W)
-      (λ desk shows. record { lives_are = shows.lives_are; taken = shows.taken; cut_off = shows.cut_off; so_far = shows.so_far; told = shows.told; none_cut = λ w. shows.none_cut (from w); lived = λ w. shows.lived (from w); started = λ w. shows.started (from w); done = λ w. shows.done (from w) })
+      (λ desk. shows_weaker d x.shown.name (queue_of d.setup n) n desk x.lives x.cut x.shown V W from)
       (numbered (d.clients + n) desks) each.0,
   servers_if d desks V W from (n + 1) servers each.1,
 )

@@ -8,8 +8,9 @@ use Rattle.std.proofs.lemmas.List.{length-map}
 use Rattle.std.proofs.lemmas.List.Elements.{All-nil, All-cons}
 use Rattle.xa_boot.specs.xa_types.Setup.{numbered, queue_of}
 use Rattle.xa_boot.specs.xa_events.declared.event.Event.{Event}
+use Rattle.xa_boot.specs.xa_events.Calls.{MadeCalls}
 use Rattle.xa_boot.specs.xa_events.Run.{Run}
-use Rattle.xa_boot.specs.xa_events.State.{opening}
+use Rattle.xa_boot.specs.xa_events.State.{opening, caller_of}
 use Rattle.xa_boot.specs.xa_events.Words.{EachNumbered}
 use Rattle.xa_boot.specs.xa_stamp.Home.{Notes}
 use Rattle.xa_boot.specs.xa_stamp.Merge.{IsMerged, stamps_of}
@@ -18,7 +19,7 @@ use Rattle.xa_boot.specs.xa_worker.declared.work.Halt.TheVariants as halts
 use Rattle.xa_boot.specs.xa_pipe.Standing.{LifeState, Ending}
 use Rattle.xa_history.specs.xa_script.declared.script.Client.{Client}
 use Rattle.xa_boot.specs.xa_server.Served.{StarterShows}
-use Rattle.xa_boot.specs.xa_server_worker.Lives.{ServerShows}
+use Rattle.xa_boot.specs.xa_server_worker.Lives.{calls_of_all, ServerShows}
 use Rattle.xa_boot.specs.xa_server_worker.Working.{cut_in}
 use Rattle.xa_boot.specs.xa_server_worker.declared.working.ServerWorker.{ServerWorker}
 use Rattle.xa_boot.specs.xa_desk.declared.domain.Domain.{Domain}
@@ -38,24 +39,11 @@ use Rattle.xa_domain.specs.Gathered.{IsHaltAmong}
 use Rattle.xa_domain.specs.Handed.{HandsBack}
 use Rattle.xa_domain.specs.Joined.{end_of}
 use Rattle.xa_domain.specs.Serving.{HasAll, HasHomes, IsNoneCut, ComesTo, ServeEnds}
+use Rattle.xa_domain.proofs.Back.{servers_if}
 
 -- ---- where the run came to its end
 
-some_weaker : {X : Type 0} (P Q : X → Type 0) → ((x : X) → P x → Q x) → (o : Option X) → IsSomeAnd o P → IsSomeAnd o Q
-some_weaker P Q from None is = absurd is
-some_weaker P Q from (Some x) is = from x is
-
 module _ (d : Domain) (desks : List Desk) (W : Type 0) (whole : W) where
-  servers_whole : (n : ℕ) (servers : List ServerEnd) → EachNumbered (λ k (x : ServerEnd). IsSomeAnd (numbered (d.clients + k) desks) (λ desk. ServerShows d x.shown.name (queue_of d.setup k) k desk x.lives x.cut x.shown W)) n servers
-      → EachNumbered (λ k (x : ServerEnd). IsSomeAnd (numbered (d.clients + k) desks) (λ desk. ServerShows d x.shown.name (queue_of d.setup k) k desk x.lives x.cut x.shown ⊤)) n servers
-  servers_whole n [] each = tt
-  servers_whole n (x ∷ servers) each = (
-    some_weaker (λ desk. ServerShows d x.shown.name (queue_of d.setup n) n desk x.lives x.cut x.shown W) (λ desk. ServerShows d x.shown.name (queue_of d.setup n) n desk x.lives x.cut x.shown ⊤)
-        (λ desk shows. record { lives_are = shows.lives_are; taken = shows.taken; cut_off = shows.cut_off; so_far = shows.so_far; told = shows.told; none_cut = λ _. shows.none_cut whole; lived = λ _. shows.lived whole; started = λ _. shows.started whole; done = λ _. shows.done whole })
-        (numbered (d.clients + n) desks) each.0,
-    servers_whole (n + 1) servers each.1,
-  )
-
   cut_of : (n : ℕ) (x : ServerEnd) (o : Option Desk) → IsSomeAnd o (λ desk. ServerShows d x.shown.name (queue_of d.setup n) n desk x.lives x.cut x.shown W) → x.cut ≡ []
   cut_of n x None is = absurd is
   cut_of n x (Some desk) is = is.none_cut whole
@@ -137,7 +125,7 @@ module _ {L T : Type 0} (shows : T → StarterShows) (clients : List Client) (bo
 
   comes_whole : (W : Type 0) → W → Ends d back.b back.domain back.desks servers homes W → EndsWhole d back.b back.desks (map (λ (c : Client). c.ops) clients) → (events : List Event) → IsMerged homes events → ComesTo shows d.setup clients None events lives cut h.starters.items
   comes_whole W is ends whole events merged =
-      let all : Ends d back.b back.domain back.desks servers homes ⊤ = record { left = ends.left; homes_are = ends.homes_are; count = ends.count; names = ends.names; each = servers_whole d back.desks W is 1 servers ends.each } in
+      let all : Ends d back.b back.domain back.desks servers homes ⊤ = record { left = ends.left; homes_are = ends.homes_are; count = ends.count; names = ends.names; each = servers_if d back.desks W ⊤ (λ any. is) 1 servers ends.each } in
       let went = carried d back.b back.domain back.desks servers homes ⊤ all events merged tt in (
         record {
           machine = ends_history d back.b back.domain back.desks servers homes (map (λ (c : Client). c.ops) clients) clients events all whole refl merged;
@@ -146,6 +134,8 @@ module _ {L T : Type 0} (shows : T → StarterShows) (clients : List Client) (bo
             lives_are = subst (AreLives d.setup (reverse events)) lives_same went.lives_are;
             pipes = subst (λ (n : ℕ). EachNumbered (λ server its. All (IsLifeOf d.setup n (reverse events) server) its) 1 lives) count
                 (subst (EachNumbered (λ server its. All (IsLifeOf d.setup d.clients (reverse events) server) its) 1) lives_same went.pipes);
+            calls = subst (λ (n : ℕ). EachNumbered (λ server its. MadeCalls d.setup n (caller_of n server) (calls_of_all its) (reverse events)) 1 lives) count
+                (subst (EachNumbered (λ server its. MadeCalls d.setup d.clients (caller_of d.clients server) (calls_of_all its) (reverse events)) 1) lives_same went.calls);
             each = starters_say (λ server shown. IsStarterOf d.setup server shown (reverse events)) went.each;
           };
         },

@@ -11,6 +11,7 @@ pub mod Silent
 pub mod Queues
 pub mod GivenBack
 pub mod Adding
+pub mod GivenUp
 pub mod Taking
 pub mod Itself
 pub mod Back

@@ -1,23 +1,21 @@
 -- What the workers leave is taken from them, one after the other.
-use Rattle.std.proofs.Common.{◌≡◌, ℕ, suc, ◌+◌, ◌<◌, ◌≤◌, List, [], ◌∷◌, ◌++◌, Option, Some, None, false, length, map, inl, inr, refl, sym, ◌∙◌, ap, subst, arith, length-append, append-nil, append_assoc}
+use Rattle.std.proofs.Common.{◌≡◌, ℕ, suc, ◌+◌, ◌≤◌, List, [], ◌∷◌, ◌++◌, Option, Some, None, length, map, inl, inr, refl, sym, ◌∙◌, ap, subst, arith, length-append, append-nil, append_assoc}
 use Rattle.std.specs.Prelude.{IfSome, IsSome, IsSomeAnd, vec_capacity}
 use Rattle.std.specs.List.{All, AllZip, Contains, filter}
-use Rattle.std.proofs.lemmas.Bool.Decides.{nat_tests}
 use Rattle.std.proofs.lemmas.Option.{slice_get_read}
+use Rattle.std.proofs.lemmas.Slice.Zip.{AllZip-long}
 use Rattle.std.proofs.Math.Seq.{get_or-append_seam}
-use Rattle.std.proofs.lemmas.List.{length-map, map-append, get_or_append_left}
+use Rattle.std.proofs.lemmas.List.{map-append, get_or_append_left}
 use Rattle.std.proofs.lemmas.List.Elements.{All-nil, All-push, All-pop, All-head, All-tail, Contains-push, Contains-append_left}
 use Rattle.std.specs.declared.vec.Vec.{Vec}
 use Rattle.std.specs.declared.alloc.Global.{Global}
 use Rattle.xa_boot.specs.xa_types.Setup.{numbered, queue_of}
 use Rattle.xa_boot.specs.xa_events.Homes.Home.{CallerHome}
-use Rattle.xa_boot.specs.xa_events.Caller.{is_client}
 use Rattle.xa_boot.specs.xa_events.Words.{EachNumbered}
 use Rattle.xa_boot.specs.xa_stamp.declared.home.Stamped.{Stamped}
 use Rattle.xa_boot.specs.xa_stamp.Home.{Notes}
 use Rattle.xa_boot.specs.xa_lock.declared.pass.LockPass.{LockPass}
 use Rattle.xa_boot.specs.xa_cell.declared.tokens.Seat.{Seat}
-use Rattle.xa_boot.specs.xa_cell.Places.{IsShut}
 use Rattle.xa_boot.specs.xa_worker.Crew.{stands_at}
 use Rattle.xa_boot.specs.xa_held.declared.kept_board.BoardNote.{BoardNote}
 use Rattle.xa_boot.specs.xa_held.declared.kept_queue.QueueNote.{QueueNote}
@@ -25,7 +23,6 @@ use Rattle.xa_boot.specs.xa_worker.declared.work.Halt.{Halt}
 use Rattle.xa_boot.specs.xa_worker.declared.work.Halt.TheVariants as halts
 use Rattle.xa_boot.specs.xa_worker.Work.{WorkState, IsSound}
 use Rattle.xa_boot.specs.xa_caller.declared.cargo.Filling.{Filling}
-use Rattle.xa_boot.specs.xa_caller.Changes.{LeavesAs}
 use Rattle.xa_boot.specs.xa_pipe.Standing.{LifeState, Ending}
 use Rattle.xa_history.specs.xa_script.declared.script.Client.{Client}
 use Rattle.xa_boot.specs.xa_server.Served.{StarterShows}
@@ -35,6 +32,9 @@ use Rattle.xa_boot.specs.xa_desk.declared.stopped.Stopped.{Stopped}
 use Rattle.xa_boot.specs.xa_desk.declared.stopped.Stopped.TheVariants.{Here, Elsewhere}
 use Rattle.xa_boot.specs.xa_desk.Desks.{IsDesk, IsBoardPass, IsQueuePass}
 use Rattle.xa_boot.specs.xa_desk.Halting.{IsStopAt}
+use Rattle.xa_boot.specs.xa_desk.Parting.{IsLeft}
+use Rattle.xa_boot.specs.xa_desk.declared.departure.Done.{Done}
+use Rattle.xa_boot.proofs.xa_client_worker.Ending.{stopped_still}
 use Rattle.xa_boot.specs.xa_client_worker.declared.working.ClientWorker.{ClientWorker}
 use Rattle.xa_boot.specs.xa_client_worker.declared.working.ClientWorker.TheVariants.{Ready, Working as AtWork, Left}
 use Rattle.xa_boot.specs.xa_client_worker.declared.working.Ended.{Ended}
@@ -53,8 +53,9 @@ use Rattle.xa_domain.specs.Leaving.{Leaving, AreTokens, leaving_of, itself_of}
 use Rattle.xa_domain.specs.Room.{IsNothing}
 use Rattle.xa_domain.specs.Gathered.{IsLeftDesk, IsStopAmong, home_of_desk, HasGathered}
 use Rattle.xa_domain.specs.declared.tokens.Tokens.{Tokens}
-use Rattle.xa_domain.specs.Gathering.{HasSpace, HasTokenSpace, HasWorkerSpace, HasServerSpace, KeepsServers, AddsTokens, HasTaken, IsBeforeClients, HasClients, HasClientsSo, IsBeforeServers, HasServers, HasServersSo}
+use Rattle.xa_domain.specs.Gathering.{HasSpace, HasTokenSpace, HasWorkerSpace, HasServerSpace, KeepsServers, AddsTokens, HasTaken, IsBeforeClients, HasClients, HasClientsSo, IsGivenUp, IsBeforeServers, HasServers, HasServersSo}
 use Rattle.xa_domain.specs.Stops.{first_of, first_among, why_left}
+use Rattle.xa_domain.proofs.GivenUp.{shows_still}
 use Rattle.xa_domain.proofs.Adding.{no_tokens, token_space, empty_space, less_space, there_some, all_some}
 
 -- ---- why it stopped
@@ -144,6 +145,21 @@ may_add d desk t all is are = (
   all_some (IsQueuePass d desk.caller.work) (length d.queues.items) desk.queues.items is.count is.queues,
 )
 
+-- so may those that it left
+pub done_may_add : (d : Domain) (done : Done) (desk : Desk) (t : Tokens) (all : List Leaving) → IsLeft done desk → IsDesk d desk → AreTokens (length d.queues.items) all t → IsSome done.board × (length done.queues.items ≡ length t.queues.items) × All IsSome done.queues.items
+done_may_add d done desk t all left is are =
+    let may = may_add d desk t all is are in (
+      subst (λ (b : Option (LockPass BoardNote)). IsSome b) (sym left.board) may.0,
+      ap (λ (v : Vec (Option (LockPass (QueueNote Filling))) Global). length v.items) left.queues ∙ may.1,
+      subst (λ (v : Vec (Option (LockPass (QueueNote Filling))) Global). All IsSome v.items) (sym left.queues) may.2,
+    )
+
+adds_left : (done : Done) (desk : Desk) (old new : Tokens) → IsLeft done desk → AddsTokens done.left.seat done.board done.queues.items old new → AddsTokens desk.caller.seat desk.board desk.queues.items old new
+adds_left done desk old new left adds =
+    subst (λ (s : Seat Filling). AddsTokens s desk.board desk.queues.items old new) left.seat
+    (subst (λ (b : Option (LockPass BoardNote)). AddsTokens done.left.seat b desk.queues.items old new) left.board
+    (subst (λ (q : Vec (Option (LockPass (QueueNote Filling))) Global). AddsTokens done.left.seat done.board q.items old new) left.queues adds))
+
 -- ---- clients
 
 first_done : (d : Domain) (n : ℕ) (scripts : List Client) (client : ClientWorker) (left : List ClientWorker) → EachDone d n scripts (client ∷ left)
@@ -194,13 +210,7 @@ module _ {L T : Type 0} (d : Domain) (itself : Leaving) (scripts : List Client) 
       let n : ℕ = length so_far.front + 1 in
       let next = first_done d n so_far.later client left (subst (EachDone d n so_far.later) is so_far.left) in
       let gone : IsGone d n next.0.ops ended × (client ≡ Left ended) = is_gone d n next.0 client ended next.3 ends in
-      let desk : Desk = gone.0.desk in
-      let may = may_add d desk now.tokens (itself ∷ map leaving_of so_far.has.desks) gone.0.is so_far.has.taken.tokens_are in
-      let queues : ended.done.queues ≡ desk.queues = gone.0.left.queues in (
-        subst (λ (b : Option (LockPass BoardNote)). IsSome b) (sym gone.0.left.board) may.0,
-        ap (λ (v : Vec (Option (LockPass (QueueNote Filling))) Global). length v.items) queues ∙ may.1,
-        subst (λ (v : Vec (Option (LockPass (QueueNote Filling))) Global). All IsSome v.items) (sym queues) may.2,
-      )
+      done_may_add d ended.done gone.0.desk now.tokens (itself ∷ map leaving_of so_far.has.desks) gone.0.left gone.0.is so_far.has.taken.tokens_are
 
   pub all_clients : (rest : List ClientWorker) (now : Gathered L T) → rest ≡ [] → HasClientsSo d itself scripts clients rest old now → HasClients d itself scripts clients old now
   all_clients rest now none so_far =
@@ -226,10 +236,7 @@ module _ {L T : Type 0} (d : Domain) (itself : Leaving) (scripts : List Client) 
       let more_desks = length-append has.desks (desk ∷ []) in
       let more_front = length-append so_far.front (client ∷ []) in
       let left_desk : IsLeftDesk d (length has.desks + 1) desk = subst (λ k. IsLeftDesk d k desk) number (record { is = gone.0.is; id = gone.0.id; sound = subst IsSound as_left.work sound; shut = as_left.shut }) in
-      let added : AddsTokens desk.caller.seat desk.board desk.queues.items now.tokens new.tokens =
-      subst (λ (s : Seat Filling). AddsTokens s desk.board desk.queues.items now.tokens new.tokens) as_left.seat
-      (subst (λ (b : Option (LockPass BoardNote)). AddsTokens ended.done.left.seat b desk.queues.items now.tokens new.tokens) as_left.board
-      (subst (λ (q : Vec (Option (LockPass (QueueNote Filling))) Global). AddsTokens ended.done.left.seat ended.done.board q.items now.tokens new.tokens) as_left.queues adds)) in
+      let added = adds_left ended.done desk now.tokens new.tokens as_left adds in
       let none_before : new.stopped ≡ None → (now.stopped ≡ None) × (ended.stopped ≡ None) = λ none. first_none now.stopped ended.stopped (sym stopped ∙ none) in
       record {
         its = so_far.its ++ next.0 ∷ [];
@@ -254,23 +261,14 @@ module _ {L T : Type 0} (d : Domain) (itself : Leaving) (scripts : List Client) 
 
 -- ---- servers
 
-not_client : (clients caller : ℕ) → clients < caller → is_client clients caller ≡ false
-not_client clients caller less = grind (arith, nat_tests)
-
-leaves_same : (halt : Option Halt) (new old : WorkState) → is_client old.clients old.id.0 ≡ false → LeavesAs halt new old → new ≡ old
-leaves_same None new old other (inl y) = absurd (cc (other, y.0))
-leaves_same None new old other (inr y) = y.1
-leaves_same (Some halt) new old other leaves = leaves.2
-
 module _ {L T : Type 0} (d : Domain) (shows : T → StarterShows) (itself : Leaving) (desks : List Desk) (servers : List (ServerWorker L T)) (old : Gathered L T) (starts : IsBeforeServers d shows itself desks servers old) where
-  abbrev DeskOf : ServerWorker L T → Desk
-  DeskOf w = w.desk
-
   pub no_servers : HasServersSo d shows itself desks servers servers old old
   no_servers = record {
     front = [];
     servers_are = refl;
     has = record {
+      ends = [];
+      given_up = tt;
       taken = subst (λ l. HasTaken d itself l old) (sym (append-nil desks)) starts.taken;
       why = refl;
       before = λ none. none;
@@ -285,41 +283,46 @@ module _ {L T : Type 0} (d : Domain) (shows : T → StarterShows) (itself : Leav
   pub next_over : (rest left : List (ServerWorker L T)) (w : ServerWorker L T) (now : Gathered L T) → HasServersSo d shows itself desks servers rest old now → rest ≡ w ∷ left → (n : ℕ) × IsOver d shows n w
   next_over rest left w now so_far is = let n : ℕ = length so_far.front + 1 in (n, (subst (EachNumbered (IsOver d shows) n) is so_far.left).0)
 
+  pub server_may_add : (rest : List (ServerWorker L T)) (done : Done) (ended : Desk) (now : Gathered L T) → HasServersSo d shows itself desks servers rest old now → IsLeft done ended → IsDesk d ended
+      → IsSome done.board × (length done.queues.items ≡ length now.tokens.queues.items) × All IsSome done.queues.items
+  server_may_add rest done ended now so_far left is = done_may_add d done ended now.tokens (itself ∷ map leaving_of (desks ++ so_far.has.ends)) left is so_far.has.taken.tokens_are
+
   pub all_servers : (rest : List (ServerWorker L T)) (now : Gathered L T) → rest ≡ [] → HasServersSo d shows itself desks servers rest old now → HasServers d shows itself desks servers old now
   all_servers rest now none so_far =
       subst (λ ws. HasServers d shows itself desks ws old now) (sym (append-nil so_far.front) ∙ ap (λ l. so_far.front ++ l) (sym none) ∙ so_far.servers_are) so_far.has
 
-  -- one more, whose caller leaves without an event
-  pub servers_more : (rest left : List (ServerWorker L T)) (w : ServerWorker L T) (halt : Option Halt) (work : WorkState) (seat : Seat Filling) (now new : Gathered L T) (notes : Notes)
-      → HasServersSo d shows itself desks servers rest old now → rest ≡ w ∷ left → seat ≡ w.desk.caller.seat → IsShut w.desk.caller.seat → LeavesAs halt work w.desk.caller.work
-      → new.stopped ≡ first_of now.stopped w.stopped → AddsTokens seat w.desk.board w.desk.queues.items now.tokens new.tokens → new.callers.items ≡ now.callers.items ++ notes ∷ []
-      → notes.entries ≡ filter (stands_at work.setup work.clients (CallerHome work.id.0)) work.own → IsSound work
+  -- one more, which is given up
+  pub servers_more : (rest left : List (ServerWorker L T)) (w : ServerWorker L T) (done : Done) (ended : Desk) (now new : Gathered L T) (notes : Notes)
+      → HasServersSo d shows itself desks servers rest old now → rest ≡ w ∷ left → IsLeft done ended → IsGivenUp d w.desk ended
+      → new.stopped ≡ first_of now.stopped w.stopped → AddsTokens done.left.seat done.board done.queues.items now.tokens new.tokens → new.callers.items ≡ now.callers.items ++ notes ∷ []
+      → notes.entries ≡ filter (stands_at done.left.work.setup done.left.work.clients (CallerHome done.left.work.id.0)) done.left.work.own → IsSound done.left.work
       → new.lives.items ≡ now.lives.items ++ w.served.lives ∷ [] → new.cut.items ≡ now.cut.items ++ w.cut ∷ [] → new.starters.items ≡ now.starters.items ++ w.served.starter ∷ []
       → HasServersSo d shows itself desks servers left old new
-  servers_more rest left w halt work seat now new notes so_far is seated shut leaves stopped adds pushed home sound lives cut starters =
+  servers_more rest left w done ended now new notes so_far is as_left given stopped adds pushed home sound lives cut starters =
       let n : ℕ = length so_far.front + 1 in
       let has = so_far.has in
       let each : EachNumbered (IsOver d shows) n (w ∷ left) = subst (EachNumbered (IsOver d shows) n) is so_far.left in
       let over : IsOver d shows n w = each.0 in
       let id = over.id in
-      let clients = over.clients in
       let count = starts.count in
-      let same : work ≡ w.desk.caller.work = leaves_same halt work w.desk.caller.work (not_client w.desk.caller.work.clients w.desk.caller.work.id.0 (omega (arith, id, clients))) leaves in
-      let before : List Desk = desks ++ map DeskOf so_far.front in
-      let many = length-append desks (map DeskOf so_far.front) in
-      let each_front = length-map so_far.front DeskOf in
-      let number : w.desk.caller.work.id.0 ≡ length before + 1 = omega (arith, id, count, many, each_front) in
+      let same = ap (λ (work : WorkState). work.id.0) given.work in
+      let before : List Desk = desks ++ has.ends in
+      let many = length-append desks has.ends in
+      let each_front = AllZip-long (λ (x : ServerWorker L T) (desk : Desk). IsGivenUp d x.desk desk) so_far.front has.ends has.given_up in
+      let number : ended.caller.work.id.0 ≡ length before + 1 = omega (arith, same, id, count, many, each_front) in
       let more_front = length-append so_far.front (w ∷ []) in
-      let left_desk : IsLeftDesk d (length before + 1) w.desk = record { is = over.is; id = number; sound = subst IsSound same sound; shut = shut } in
-      let added = subst (λ (s : Seat Filling). AddsTokens s w.desk.board w.desk.queues.items now.tokens new.tokens) seated adds in
-      let together : before ++ w.desk ∷ [] ≡ desks ++ map DeskOf (so_far.front ++ w ∷ []) = append_assoc desks (map DeskOf so_far.front) (w.desk ∷ []) ∙ ap (λ l. desks ++ l) (sym (map-append DeskOf so_far.front (w ∷ []))) in
+      let left_desk : IsLeftDesk d (length before + 1) ended = record { is = given.leads.desk; id = number; sound = subst IsSound as_left.work sound; shut = as_left.shut } in
+      let halts : IfSome w.stopped (IsStopAt ended) = if_some (IsStopAt w.desk) (IsStopAt ended) w.stopped (λ s. stopped_still d w.desk ended s given.work) over.halts in
       let none_before : new.stopped ≡ None → (now.stopped ≡ None) × (w.stopped ≡ None) = λ none. first_none now.stopped w.stopped (sym stopped ∙ none) in
       let items : Vec Ending Global → List Ending = λ (v : Vec Ending Global). v.items in
       record {
         front = so_far.front ++ w ∷ [];
         servers_are = append_assoc so_far.front (w ∷ []) left ∙ ap (λ l. so_far.front ++ l) (sym is) ∙ so_far.servers_are;
         has = record {
-          taken = subst (λ l. HasTaken d itself l new) together (taken_more d itself before now new w.desk notes w.stopped has.taken left_desk added pushed (home_same d w.desk work notes.entries over.is same home) stopped over.halts);
+          ends = has.ends ++ ended ∷ [];
+          given_up = zip_push (λ (x : ServerWorker L T) (desk : Desk). IsGivenUp d x.desk desk) so_far.front has.ends w ended has.given_up given;
+          taken = subst (λ l. HasTaken d itself l new) (append_assoc desks has.ends (ended ∷ []))
+              (taken_more d itself before now new ended notes w.stopped has.taken left_desk (adds_left done ended now.tokens new.tokens as_left adds) pushed (home_same d ended done.left.work notes.entries given.leads.desk as_left.work home) stopped halts);
           before = λ none. has.before (none_before none).0;
           why = first_more (λ (x : ServerWorker L T). x.stopped) so_far.front w old.stopped now.stopped new.stopped w.stopped stopped has.why refl;
           going = λ none. All-push (λ (x : ServerWorker L T). x.stopped ≡ None) so_far.front w (has.going (none_before none).0) (none_before none).1;
@@ -350,7 +353,8 @@ made_each d front (desk ∷ desks) more (c ∷ scripts) n is all =
       subst (λ l. EachNumbered (λ k (x : Client). IsSomeAnd (numbered k l) (HasMadeAll d x.ops)) (n + 1) scripts) (append_assoc front (desk ∷ []) (desks ++ more)) (made_each d (front ++ desk ∷ []) desks more scripts (n + 1) next all.1),
     )
 
-shows_weaker : (d : Domain) (name : List ℕ) (queue server : ℕ) (desk : Desk) (lives : List Ending) (cut : List LifeState) (shown : StarterShows) (Whole Less : Type 0) → (Less → Whole) → ServerShows d name queue server desk lives cut shown Whole → ServerShows d name queue server desk lives cut shown Less
+-- the same where less is asked
+pub shows_weaker : (d : Domain) (name : List ℕ) (queue server : ℕ) (desk : Desk) (lives : List Ending) (cut : List LifeState) (shown : StarterShows) (Whole Less : Type 0) → (Less → Whole) → ServerShows d name queue server desk lives cut shown Whole → ServerShows d name queue server desk lives cut shown Less
 shows_weaker d name queue server desk lives cut shown Whole Less from is = record {
   lives_are = is.lives_are;
   taken = is.taken;
@@ -359,24 +363,26 @@ shows_weaker d name queue server desk lives cut shown Whole Less from is = recor
   told = is.told;
   none_cut = λ whole. is.none_cut (from whole);
   lived = λ whole. is.lived (from whole);
+  called = λ whole. is.called (from whole);
   started = λ whole. is.started (from whole);
   done = λ whole. is.done (from whole);
 }
 
 module _ {L T : Type 0} (d : Domain) (shows : T → StarterShows) where
-  shows_each : (Whole : Type 0) (front : List Desk) (servers : List (ServerWorker L T)) (n : ℕ) → d.clients + n ≡ length front + 1 → EachNumbered (IsOver d shows) n servers → (Whole → All (λ (w : ServerWorker L T). w.stopped ≡ None) servers)
-      → EachNumbered (λ k (x : ServerEnd). IsSomeAnd (numbered (d.clients + k) (front ++ map (λ (w : ServerWorker L T). w.desk) servers)) (λ desk. ServerShows d x.shown.name (queue_of d.setup k) k desk x.lives x.cut x.shown Whole)) n (map (end_of shows) servers)
-  shows_each Whole front [] n is over going = tt
-  shows_each Whole front (w ∷ servers) n is over going =
-      let DeskOf : ServerWorker L T → Desk = λ (x : ServerWorker L T). x.desk in
+  shows_each : (Whole : Type 0) (front : List Desk) (servers : List (ServerWorker L T)) (ends : List Desk) (n : ℕ) → d.clients + n ≡ length front + 1 → EachNumbered (IsOver d shows) n servers → AllZip (λ (w : ServerWorker L T) (desk : Desk). IsGivenUp d w.desk desk) servers ends
+      → (Whole → All (λ (w : ServerWorker L T). w.stopped ≡ None) servers)
+      → EachNumbered (λ k (x : ServerEnd). IsSomeAnd (numbered (d.clients + k) (front ++ ends)) (λ desk. ServerShows d x.shown.name (queue_of d.setup k) k desk x.lives x.cut x.shown Whole)) n (map (end_of shows) servers)
+  shows_each Whole front [] ends n is over given going = tt
+  shows_each Whole front (w ∷ servers) [] n is over given going = absurd given
+  shows_each Whole front (w ∷ servers) (desk ∷ ends) n is over given going =
       let end = end_of shows w in
-      let longer = length-append front (w.desk ∷ []) in
-      let next : d.clients + (n + 1) ≡ length (front ++ w.desk ∷ []) + 1 = omega (arith, is, longer) in
+      let longer = length-append front (desk ∷ []) in
+      let next : d.clients + (n + 1) ≡ length (front ++ desk ∷ []) + 1 = omega (arith, is, longer) in
       let whole : Whole → w.stopped ≡ None = λ all. All-head (λ (x : ServerWorker L T). x.stopped ≡ None) w servers (going all) in (
-        subst (λ o. IsSomeAnd o (λ desk. ServerShows d end.shown.name (queue_of d.setup n) n desk end.lives end.cut end.shown Whole)) (sym (numbered_last front (map DeskOf servers) w.desk (d.clients + n) is))
-            (shows_weaker d end.shown.name (queue_of d.setup n) n w.desk end.lives end.cut end.shown (w.stopped ≡ None) Whole whole over.0.shown),
-        subst (λ l. EachNumbered (λ k (x : ServerEnd). IsSomeAnd (numbered (d.clients + k) l) (λ desk. ServerShows d x.shown.name (queue_of d.setup k) k desk x.lives x.cut x.shown Whole)) (n + 1) (map (end_of shows) servers)) (append_assoc front (w.desk ∷ []) (map DeskOf servers))
-            (shows_each Whole (front ++ w.desk ∷ []) servers (n + 1) next over.1 (λ all. All-tail (λ (x : ServerWorker L T). x.stopped ≡ None) w servers (going all))),
+        subst (λ o. IsSomeAnd o (λ desk. ServerShows d end.shown.name (queue_of d.setup n) n desk end.lives end.cut end.shown Whole)) (sym (numbered_last front ends desk (d.clients + n) is))
+            (shows_weaker d end.shown.name (queue_of d.setup n) n desk end.lives end.cut end.shown (w.stopped ≡ None) Whole whole (shows_still given.0 (queue_of d.setup n) n over.0.shown)),
+        subst (λ l. EachNumbered (λ k (x : ServerEnd). IsSomeAnd (numbered (d.clients + k) l) (λ desk. ServerShows d x.shown.name (queue_of d.setup k) k desk x.lives x.cut x.shown Whole)) (n + 1) (map (end_of shows) servers)) (append_assoc front (desk ∷ []) ends)
+            (shows_each Whole (front ++ desk ∷ []) servers ends (n + 1) next over.1 given.1 (λ all. All-tail (λ (x : ServerWorker L T). x.stopped ≡ None) w servers (going all))),
       )
 
   -- nothing was taken but the domain's own
@@ -402,12 +408,12 @@ module _ {L T : Type 0} (d : Domain) (shows : T → StarterShows) where
   pub gathered : (scripts : List Client) (clients : List ClientWorker) (servers : List (ServerWorker L T)) (closer : Closer) (g0 g1 g2 : Gathered L T) (why : Option Stopped) → g0.stopped ≡ None → length clients ≡ d.clients → EachNumbered (IsOver d shows) 1 servers → HasClosed d clients closer
       → (has : HasClients d (itself_of d closer) scripts clients g0 g1) → HasServers d shows (itself_of d closer) has.desks servers g1 g2 → why ≡ first_of g2.stopped (here_by closer.halt) → HasGathered d shows scripts clients servers closer (record g2 { stopped = why })
   gathered scripts clients servers closer g0 g1 g2 why going all over closed has more is =
-      let DeskOf : ServerWorker L T → Desk = λ (x : ServerWorker L T). x.desk in
       let StopOf : ServerWorker L T → Option Stopped = λ (x : ServerWorker L T). x.stopped in
-      let desks : List Desk = has.desks ++ map DeskOf servers in
+      let ends : List Desk = more.ends in
+      let desks : List Desk = has.desks ++ ends in
       let count = has.count in
-      let many = length-append has.desks (map DeskOf servers) in
-      let each_server = length-map servers DeskOf in
+      let many = length-append has.desks ends in
+      let each_server = AllZip-long (λ (w : ServerWorker L T) (desk : Desk). IsGivenUp d w.desk desk) servers ends more.given_up in
       let stopped : Option Stopped = first_of g2.stopped (here_by closer.halt) in
       let none_before : stopped ≡ None → (g2.stopped ≡ None) × (here_by closer.halt ≡ None) = first_none g2.stopped (here_by closer.halt) in
       let P : Stopped → Type 0 = IsStopAmong (work_of d closer) desks in
@@ -418,9 +424,9 @@ module _ {L T : Type 0} (d : Domain) (shows : T → StarterShows) where
         callers_are = more.taken.callers_are;
         count = omega (arith, count, many, each_server, all);
         each_desk = more.taken.each_desk;
-        keep = λ whole hold. has.keep whole (λ k x less. subst (λ y. All (Contains (whole.callers y.caller.work.id.0)) (home_of_desk d y)) (get_or_append_left has.desks (map DeskOf servers) x k less) (hold k x (omega (arith, less, many))));
-        made = λ none. made_each d [] has.desks (map DeskOf servers) scripts 1 refl (has.made (more.before (none_before none).0));
-        each = shows_each (stopped ≡ None) has.desks servers 1 first over (λ none. more.going (none_before none).0);
+        keep = λ whole hold. has.keep whole (λ k x less. subst (λ y. All (Contains (whole.callers y.caller.work.id.0)) (home_of_desk d y)) (get_or_append_left has.desks ends x k less) (hold k x (omega (arith, less, many))));
+        made = λ none. made_each d [] has.desks ends scripts 1 refl (has.made (more.before (none_before none).0));
+        each = shows_each (stopped ≡ None) has.desks servers ends 1 first over more.given_up (λ none. more.going (none_before none).0);
         why = ap (λ (o : Option Stopped). first_of o (here_by closer.halt)) (more.why ∙ ap (λ (o : Option Stopped). first_among o (map StopOf servers)) (has.why ∙ ap (λ (o : Option Stopped). first_among o (map why_left clients)) going))
             ∙ sym (first_push None (map why_left clients ++ map StopOf servers) (here_by closer.halt) ∙ ap (λ (o : Option Stopped). first_of o (here_by closer.halt)) (first_append None (map why_left clients) (map StopOf servers)));
         itself = λ none. no_halt closer.halt (none_before none).1;

@@ -123,7 +123,7 @@ module _ {L T : Type 0} (d : Domain) (shows : T → StarterShows) where
         is = leads.desk;
         id = ap (λ (i : CallerId). i.0) served.id ∙ is.id;
         clients = served.clients ∙ is.clients;
-        idle = served.idle;
+        out = served.out;
         hand = served.hand;
         shown = subst (λ n. Shown ((shows new.served.starter).name) (queue_of d.setup n) n) is.number
             (subst (λ q. Shown ((shows new.served.starter).name) q old.served.slot.server.0) (sym serving.its)

@@ -7,16 +7,18 @@ use Rattle.xa_boot.specs.xa_events.Words.{EachNumbered}
 use Rattle.xa_boot.specs.xa_stamp.Home.{Notes}
 use Rattle.xa_boot.specs.xa_lock.declared.pass.LockPass.{LockPass}
 use Rattle.xa_boot.specs.xa_cell.declared.tokens.Seat.{Seat}
+use Rattle.xa_boot.specs.xa_cell.Known.{known}
 use Rattle.xa_boot.specs.xa_held.declared.kept_board.BoardNote.{BoardNote}
 use Rattle.xa_boot.specs.xa_held.declared.kept_queue.QueueNote.{QueueNote}
 use Rattle.xa_boot.specs.xa_worker.Work.{WorkState}
 use Rattle.xa_boot.specs.xa_pipe.Standing.{Ending}
 use Rattle.xa_boot.specs.xa_caller.declared.cargo.Filling.{Filling}
+use Rattle.xa_boot.specs.xa_caller.Changes.{FillsNoMore}
 use Rattle.xa_history.specs.xa_script.declared.script.Client.{Client}
 use Rattle.xa_boot.specs.xa_server.Served.{StarterShows}
 use Rattle.xa_boot.specs.xa_desk.declared.domain.Domain.{Domain}
 use Rattle.xa_boot.specs.xa_desk.declared.desk.Desk.{Desk}
-use Rattle.xa_boot.specs.xa_desk.Desks.{IsThere}
+use Rattle.xa_boot.specs.xa_desk.Desks.{IsThere, Leads}
 use Rattle.xa_boot.specs.xa_desk.Whole.{Whole}
 use Rattle.xa_boot.specs.xa_client_worker.declared.working.ClientWorker.{ClientWorker}
 use Rattle.xa_boot.specs.xa_server_worker.declared.working.ServerWorker.{ServerWorker}
@@ -108,6 +110,12 @@ pub record KeepsServers {L T : Type 0} (old new : Gathered L T) : Type 0 where
   pub same_cut : new.cut ≡ old.cut
   pub same_starters : new.starters ≡ old.starters
 
+-- the desk as it is given up: its worker notes nothing more, and fills no more cells
+pub record IsGivenUp (d : Domain) (old new : Desk) : Type 0 where
+  pub leads : Leads d old new
+  pub work : new.caller.work ≡ old.caller.work
+  pub fills : FillsNoMore (known old.caller.seat) (known new.caller.seat)
+
 module _ {L T : Type 0} (d : Domain) (shows : T → StarterShows) where
   -- all servers are done, and what the clients leave, at these desks, was taken
   pub record IsBeforeServers (itself : Leaving) (desks : List Desk) (servers : List (ServerWorker L T)) (g : Gathered L T) : Type 0 where
@@ -118,9 +126,11 @@ module _ {L T : Type 0} (d : Domain) (shows : T → StarterShows) where
     pub no_cut : g.cut.items ≡ []
     pub no_starters : g.starters.items ≡ []
 
-  -- the servers' are taken too
+  -- the servers' are taken too, which left those desks
   pub record HasServers (itself : Leaving) (desks : List Desk) (servers : List (ServerWorker L T)) (old new : Gathered L T) : Type 0 where
-    pub taken : HasTaken d itself (desks ++ map (λ (w : ServerWorker L T). w.desk) servers) new
+    pub ends : List Desk
+    pub given_up : AllZip (λ (w : ServerWorker L T) (desk : Desk). IsGivenUp d w.desk desk) servers ends
+    pub taken : HasTaken d itself (desks ++ ends) new
     pub before : new.stopped ≡ None → old.stopped ≡ None
     pub why : new.stopped ≡ first_among old.stopped (map (λ (w : ServerWorker L T). w.stopped) servers)
     pub going : new.stopped ≡ None → All (λ (w : ServerWorker L T). w.stopped ≡ None) servers

@@ -2,7 +2,6 @@
 use Rattle.std.specs.Prelude.{◌≡◌, ◌<◌, ◌^◌, ℕ, ◌+◌, List, [], ◌∷◌, length, None, IfSome}
 use Rattle.xa_boot.specs.xa_types.declared.call.Op.{Op}
 use Rattle.xa_boot.specs.xa_types.Setup.{queue_of}
-use Rattle.xa_boot.specs.xa_caller.declared.phase.Phase.TheVariants.{Idle}
 use Rattle.xa_history.specs.xa_script.declared.script.Client.{Client}
 use Rattle.xa_boot.specs.xa_server.Served.{StarterShows}
 use Rattle.xa_boot.specs.xa_desk.declared.domain.Domain.{Domain}
@@ -10,6 +9,7 @@ use Rattle.xa_boot.specs.xa_desk.declared.desk.Desk.{Desk}
 use Rattle.xa_boot.specs.xa_desk.Desks.{IsDesk}
 use Rattle.xa_boot.specs.xa_desk.Halting.{IsStopAt}
 use Rattle.xa_boot.specs.xa_desk.Parting.{IsLeft}
+use Rattle.xa_boot.specs.xa_calls.Going.{IsOut}
 use Rattle.xa_boot.specs.xa_client_worker.declared.working.ClientWorker.{ClientWorker}
 use Rattle.xa_boot.specs.xa_client_worker.declared.working.ClientWorker.TheVariants.{Left}
 use Rattle.xa_boot.specs.xa_client_worker.declared.working.Ended.{Ended}
@@ -44,12 +44,12 @@ EachDone d n [] [] = Unit {0}
 EachDone d n (script ∷ scripts) (worker ∷ workers) = IsDone d n script.ops worker × EachDone d (n + 1) scripts workers
 EachDone d n scripts workers = ⊥
 
--- the worker of the server with that number behind its work: its desk may be left, nothing is in hand, and it shows how its server lived
+-- the worker of the server with that number behind its work: its desk may be given up, nothing is in hand, and it shows how its server lived
 pub record IsOver {L T : Type 0} (d : Domain) (shows : T → StarterShows) (server : ℕ) (worker : ServerWorker L T) : Type 0 where
   pub is : IsDesk d worker.desk
   pub id : worker.desk.caller.work.id.0 ≡ d.clients + server
   pub clients : worker.desk.caller.work.clients ≡ d.clients
-  pub idle : worker.desk.caller.phase ≡ Idle
+  pub out : IsOut worker.desk
   pub hand : worker.served.slot.hand ≡ None
   pub shown : ServerShows d ((shows worker.served.starter).name) (queue_of d.setup server) server worker.desk worker.served.lives.items (cut_in worker.cut) (shows worker.served.starter) (worker.stopped ≡ None)
   pub halts : IfSome worker.stopped (IsStopAt worker.desk)

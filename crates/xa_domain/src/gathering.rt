@@ -2,7 +2,6 @@
 ghost use Rattle.std.specs.Prelude.{◌≡◌, ◌+◌, ℕ, List, length, None};
 ghost use Rattle.xa_boot.specs.xa_events.Words.{EachNumbered};
 ghost use Rattle.xa_history.specs.xa_script.declared.script.Client.{Client};
-ghost use Rattle.xa_boot.specs.xa_desk.declared.domain.Domain.{Domain as Shared};
 ghost use Rattle.xa_boot.specs.xa_desk.declared.desk.Desk.{Desk as Place};
 ghost use Rattle.xa_boot.specs.xa_desk.Desks.{IsDomain};
 ghost use Rattle.xa_boot.specs.xa_client_worker.Ending.{here_by};
@@ -18,7 +17,7 @@ use crate::tokens::Tokens;
 use xa_boot::Closer;
 use xa_boot::caller::Left;
 use xa_boot::clients::{ClientWorker, Ended};
-use xa_boot::desk::{Desk, Domain, Done, Stopped};
+use xa_boot::desk::{Domain, Done, Stopped};
 use xa_boot::link::{Link, Starter};
 use xa_boot::links::{CutLife, ServerWorker};
 use xa_boot::pipe::EndedLife;
@@ -86,11 +85,16 @@ fn add_clients<L: Link, T>(domain: &Domain, all: &mut Gathered<L, T>, clients: V
     rest.destroy_empty();
 }
 
-fn add_servers<L: Link, T: Starter<L>>(all: &mut Gathered<L, T>, servers: Vec<ServerWorker<L, T>>)
-    requires may { (d : Shared) × (itself : Leaving) × (desks : List Place) × IsBeforeServers d T.shows itself desks servers.items all.old }
+fn add_servers<L: Link, T: Starter<L>>(
+    domain: &Domain,
+    all: &mut Gathered<L, T>,
+    servers: Vec<ServerWorker<L, T>>,
+)
+    requires domain { IsDomain domain.now }
+    requires may { (itself : Leaving) × (desks : List Place) × IsBeforeServers domain.now T.shows itself desks servers.items all.old }
     requires space { HasServerSpace (length servers.items) all.old }
-    ensures { (d : Shared) (itself : Leaving) (desks : List Place) → IsBeforeServers d T.shows itself desks servers.items all.old
-        → HasServers d T.shows itself desks servers.items all.old all.new }
+    ensures { (itself : Leaving) (desks : List Place) → IsBeforeServers domain.now T.shows itself desks servers.items all.old
+        → HasServers domain.now T.shows itself desks servers.items all.old all.new }
 {
     let mut rest = servers.into_iter();
     while let Some(server) = rest.next() {
@@ -109,17 +113,17 @@ fn add_servers<L: Link, T: Starter<L>>(all: &mut Gathered<L, T>, servers: Vec<Se
             lives,
         } = served;
         slot.end();
-        let Desk {
-            caller,
+        let Done {
+            left,
             reader: _,
             board,
             queues,
-        } = desk;
+        } = desk.abandon(domain);
         let Left {
             work,
             seat,
             halt: _,
-        } = caller.leave();
+        } = left;
         all.stopped = first_of(all.stopped, stopped);
         all.tokens.add(seat, board, queues);
         all.callers.push_reserved(work.home());
@@ -159,7 +163,7 @@ pub(crate) fn gather<L: Link, T: Starter<L>>(
     } = closer;
     all.tokens.add(seat, board, queues);
     add_clients(domain, &mut all, clients);
-    add_servers(&mut all, servers);
+    add_servers(domain, &mut all, servers);
     all.stopped = with_halt(all.stopped, halt);
     all
 }

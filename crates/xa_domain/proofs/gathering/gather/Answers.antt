@@ -1,4 +1,4 @@
-use Rattle.std.proofs.Common.{◌+◌, ℕ, List, length, refl, sym, ◌∙◌, subst, arith}
+use Rattle.std.proofs.Common.{◌+◌, ℕ, length, refl, sym, ◌∙◌, subst, arith}
 use Rattle.xa_boot.specs.xa_server.Served.{StarterShows}
 use Rattle.xa_boot.specs.xa_desk.Desks.{IsBoardPass, IsQueuePass}
 use Rattle.xa_boot.specs.Booting.{work_of}
@@ -51,7 +51,8 @@ add_servers-requires g c =
     let has = c.add_clients.ensures.taken (itself_of d closer) c.requires.done.0 before in
     let space = c.add_clients.ensures.space servers (less_workers (length c.args.clients.items + servers) (d.clients + servers) g0 (omega (arith, many)) (room_after queues d.clients servers closer.seat closer.board closer.queues.items room c.add.new.self c.requires.room c.add.ensures)) in
     record {
-      may = (d, itself_of d closer, has.desks, before_servers d shows queues d.clients servers (itself_of d closer) c.requires.done.0 c.args.clients.items c.args.servers.items room c.add.new.self g1 c.requires.room c.add_clients.ensures.kept many has c.requires.over);
+      domain = c.requires.domain;
+      may = (itself_of d closer, has.desks, before_servers d shows queues d.clients servers (itself_of d closer) c.requires.done.0 c.args.clients.items c.args.servers.items room c.add.new.self g1 c.requires.room c.add_clients.ensures.kept many has c.requires.over);
       space = subst (λ n. HasServerSpace n g1) (sym c.requires.all_servers) (server_room queues d.clients servers room c.add.new.self g1 c.requires.room c.add_clients.ensures.kept space);
     }
 
@@ -69,5 +70,5 @@ returns g c = λ scripts done.
     let many = c.requires.all_clients in
     let before : IsBeforeClients d (itself_of d closer) scripts c.args.clients.items g0 = record { done = done; taken = nothing_taken d shows queues d.clients servers closer room c.add.new.self c.requires.room refl c.add.ensures } in
     let has = c.add_clients.ensures.taken (itself_of d closer) scripts before in
-    let more = c.add_servers.ensures d (itself_of d closer) has.desks (before_servers d shows queues d.clients servers (itself_of d closer) scripts c.args.clients.items c.args.servers.items room c.add.new.self g1 c.requires.room c.add_clients.ensures.kept many has c.requires.over) in
+    let more = c.add_servers.ensures (itself_of d closer) has.desks (before_servers d shows queues d.clients servers (itself_of d closer) scripts c.args.clients.items c.args.servers.items room c.add.new.self g1 c.requires.room c.add_clients.ensures.kept many has c.requires.over) in
     gathered d shows scripts c.args.clients.items c.args.servers.items closer g0 g1 g2 c.with_halt-all.result c.requires.room.going many c.requires.over c.requires.closed has more c.with_halt-all.ensures

@@ -17,5 +17,6 @@ returns c =
         given_up_leads d desk c.requires.desk left.seat c.abandon-left.ensures.cells.0 c.abandon-left.ensures.filled,
         refl,
         c.abandon-left.ensures.work.1,
+        c.abandon-left.ensures.filled,
       );
     }
