@@ -161,7 +161,7 @@ class Body:
         number = self.number(1)
         if number > 2:
             raise NoFrame(f"there is no buffer of kind {number:02x}")
-        return [None, "X_OCTET"][number] if number < 2 else f"X_C_TYPE {self.name().decode()}"
+        return None if number == 0 else kind_of(self.name() if number == 2 else None)
 
     def field(self, what, found):
         """Takes the field of an OP or a REPLY."""
@@ -250,11 +250,14 @@ def shown(octets, most=24):
     return (front.hex(" ") or "nothing") + more
 
 
+def kind_of(subtype):
+    return "X_OCTET" if subtype is None else f"X_C_TYPE {subtype.decode()}"
+
+
 def shown_data(subtype, octets):
     if octets is None:
         return "no data"
-    kind = "X_OCTET" if subtype is None else f"X_C_TYPE {subtype.decode()}"
-    return f"{kind}, {len(octets):,} octets {shown(octets)}" if octets else f"{kind}, 0 octets"
+    return f"{kind_of(subtype)}, {len(octets):,} octets {shown(octets)}" if octets else f"{kind_of(subtype)}, 0 octets"
 
 
 def told(kind, tag, found):
