@@ -16,7 +16,7 @@ _xatmi() {
     # Which word of the command it is, options and what follows them left out.
     for ((at = 2; at < COMP_CWORD; at++)); do
         case ${COMP_WORDS[1]}:${COMP_WORDS[at]} in
-            check:--play | watch:--log | trial:--config | trial:--patience) ((at++)) ;;
+            check:--play | watch:--log | trial:--config | trial:--calls | trial:--patience) ((at++)) ;;
             *:-*) ;;
             *) ((++place)) ;;
         esac
@@ -25,19 +25,20 @@ _xatmi() {
         check:--play) return ;;
         watch:--log) _xatmi_files '*'; return ;;
         trial:--config) _xatmi_files '*.toml'; return ;;
+        trial:--calls) return ;;
         trial:--patience) return ;;
     esac
     case ${COMP_WORDS[1]}:$word in
         check:-*) COMPREPLY=($(compgen -W '--play --help' -- "$word")); return ;;
         watch:-*) COMPREPLY=($(compgen -W '--json --log --help' -- "$word")); return ;;
-        trial:-*) COMPREPLY=($(compgen -W '--config --patience --help' -- "$word")); return ;;
+        trial:-*) COMPREPLY=($(compgen -W '--config --calls --patience --help' -- "$word")); return ;;
         told:-*) COMPREPLY=($(compgen -W '--json --check --help' -- "$word")); return ;;
         new:-*) COMPREPLY=($(compgen -W '--c --help' -- "$word")); return ;;
         rule:-*) COMPREPLY=($(compgen -W '--all --help' -- "$word")); return ;;
     esac
     case ${COMP_WORDS[1]}:$place in
         run:0) _xatmi_files '*.toml' ;;
-        play:0) COMPREPLY=($(compgen -W 'ECHO LEN FAIL EXIT DIE TRANSFER ACCT PASS' -- "$word")) ;;
+        play:0) COMPREPLY=($(compgen -W 'ECHO LEN FAIL EXIT DIE TRANSFER ACCT PASS RELAY QUIT' -- "$word")) ;;
         check:0) _xatmi_files '*.toml' ;;
         check:1) _xatmi_files '*.script' ;;
         watch:0) _xatmi_files '*.toml' ;;

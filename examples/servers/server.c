@@ -1,9 +1,10 @@
 /*
- * A server with the routines ECHO and PASS, with the library beside it.
+ * A server with the routines ECHO, PASS and RELAY, with the library beside it.
  *
  * ECHO returns the data of the request with TPSUCCESS and code 0. PASS forwards X_OCTET with a space among its first 256
- * octets to the service before the first space, with what follows it, and returns other data as ECHO does. A service's name
- * is a text of C, so it ends at an octet 00. Any other routine is TPFAIL with code 99 and no data. Octets that are no frame,
+ * octets to the service before the first space, with what follows it, and returns other data as ECHO does. RELAY calls that
+ * service in its place, and returns its code and data, or TPFAIL with code 1 and the error's name. A service's name is a text
+ * of C, so it ends at an octet 00. Any other routine is TPFAIL with code 99 and no data. Octets that are no frame,
  * and a frame that may not come then, are told by their place, with status 10.
  *
  *     cc -std=c99 -o server server.c
@@ -11,7 +12,7 @@
 
 #include <string.h>
 
-#define TPSERVICES ECHO, PASS
+#define TPSERVICES ECHO, PASS, RELAY
 #include "sunzheg.h"
 
 /* The first space among the first 256 octets of X_OCTET, or NULL. */
@@ -29,16 +30,38 @@ void ECHO(TPSVCINFO *request)
     tpreturn(TPSUCCESS, 0, request->data, request->len, 0);
 }
 
-void PASS(TPSVCINFO *request)
+/* Takes the service off the front of the data, up to the space; what follows it goes on in the request's own buffer. */
+static long part(TPSVCINFO *request, char service[256])
 {
-    char service[256];
     char *space = space_in(request);
     if (space == NULL)
         ECHO(request); /* It doesn't come back. */
     size_t length = (size_t)(space - request->data), rest = (size_t)request->len - length - 1;
     memcpy(service, request->data, length);
     service[length] = '\0';
-    /* What follows the space goes on in the request's own buffer. */
     memmove(request->data, space + 1, rest);
-    tpforward(service, request->data, (long)rest, 0);
+    return (long)rest;
+}
+
+void PASS(TPSVCINFO *request)
+{
+    char service[256];
+    long rest = part(request, service);
+    tpforward(service, request->data, rest, 0);
+}
+
+void RELAY(TPSVCINFO *request)
+{
+    char service[256];
+    long rest = part(request, service), count = 0;
+    char *answer = tpalloc(X_OCTET, NULL, 0), *name = tpalloc(X_OCTET, NULL, 16);
+    if (answer == NULL || name == NULL)
+        tpreturn(TPFAIL, 1, NULL, 0, 0);
+    if (tpcall(service, request->data, rest, &answer, &count, 0) < 0) {
+        strcpy(name, tpstrerror(tperrno));
+        tpfree(answer);
+        tpreturn(TPFAIL, 1, name, (long)strlen(name), 0);
+    }
+    tpfree(name);
+    tpreturn(TPSUCCESS, tpurcode, count > 0 ? answer : NULL, count, 0);
 }

@@ -28,10 +28,17 @@
  * is a buffer of tpalloc, or NULL. Where a service ends without either, or gives one of them what it may not, that is told on
  * standard error, and the caller is told TPESVCERR. A routine that isn't there is TPFAIL with code 99. After TPEXIT the server ends.
  *
+ * A service may call others by tpcall, which waits for the answer. *odata is a buffer of tpalloc, of any type; an answer with data
+ * takes its place, and *odata is where that is. An answer without data leaves it, and *olen is 0. It answers -1 for an error, of
+ * which tperrno is the number and tpstrerror the name; want of memory is TPEOS. tpurcode is the code of the last answer, also of
+ * TPESVCFAIL. Flags are TPNOBLOCK, TPNOTIME, TPSIGRSTRT, TPNOTRAN, and TPNOCHANGE: then data of another type than *odata has is
+ * TPEOTYPE. tpsprio sets the priority of the service's next call or forward, with TPABSOLUTE, and else adds to it. Outside a service
+ * both are TPEPROTO. A service whose call is put on its own queue waits for good where no other server is there.
+ *
  * Standard output belongs to the monitor: what a service prints there goes to standard error, and standard input is empty.
  * Octets that are no frame, and a frame that may not come then, are told by their place, and the server ends with status 10.
  *
- * Not here: calls that a service makes (tpcall and those behind it), conversations, tpadvertise and X_COMMON.
+ * Not here: tpacall and tpgetrply, conversations, tpadvertise and X_COMMON.
  */
 
 #ifndef SUNZHEG_H
@@ -48,6 +55,7 @@
 #define TPNOTRAN 0x00000008L
 #define TPTRAN 0x00000010L
 #define TPNOTIME 0x00000020L
+#define TPABSOLUTE 0x00000040L
 #define TPGETANY 0x00000080L
 #define TPNOCHANGE 0x00000100L
 #define TPCONV 0x00000400L
@@ -58,9 +66,21 @@
 #define TPSUCCESS 0x00000002
 #define TPEXIT 0x08000000
 
+#define TPEBADDESC 2
+#define TPEBLOCK 3
 #define TPEINVAL 4
+#define TPELIMIT 5
 #define TPENOENT 6
 #define TPEOS 7
+#define TPEPROTO 9
+#define TPESVCERR 10
+#define TPESVCFAIL 11
+#define TPESYSTEM 12
+#define TPETIME 13
+#define TPEITYPE 17
+#define TPEOTYPE 18
+#define TPEEVENT 22
+#define TPEMATCH 23
 
 typedef struct tpsvcinfo {
     char name[XATMI_SERVICE_NAME_LENGTH]; /* the service that was called */
@@ -70,11 +90,15 @@ typedef struct tpsvcinfo {
     int cd;                               /* 0: there are no conversations yet */
 } TPSVCINFO;
 
-/* Why the last of these calls failed. */
+/* Why the last of these calls failed, and the code of the last answer. */
 extern int tperrno;
+extern long tpurcode;
 
 void tpreturn(int rval, long rcode, char *data, long len, long flags);
 void tpforward(char *svc, char *data, long len, long flags);
+int tpcall(const char *svc, char *idata, long ilen, char **odata, long *olen, long flags);
+int tpsprio(int prio, long flags);
+const char *tpstrerror(int err);
 char *tpalloc(char *type, char *subtype, long size);
 char *tprealloc(char *ptr, long size);
 void tpfree(char *ptr);
@@ -153,13 +177,27 @@ static const struct {
 
 /* ---- what the protocol says in numbers */
 
-enum { SUNZHEG_READY = 0x01, SUNZHEG_NEXT = 0x02, SUNZHEG_RETURN = 0x04, SUNZHEG_FORWARD = 0x05 };
-enum { SUNZHEG_INVOKE = 0x11, SUNZHEG_SHUTDOWN = 0x13 };
+enum { SUNZHEG_READY = 0x01, SUNZHEG_NEXT = 0x02, SUNZHEG_OP = 0x03, SUNZHEG_RETURN = 0x04, SUNZHEG_FORWARD = 0x05 };
+enum { SUNZHEG_INVOKE = 0x11, SUNZHEG_REPLY = 0x12, SUNZHEG_SHUTDOWN = 0x13 };
+enum { SUNZHEG_TPCALL = 1, SUNZHEG_TPSPRIO = 10, SUNZHEG_DONE = 0, SUNZHEG_ANSWER = 3, SUNZHEG_ERROR = 6 };
 enum { SUNZHEG_NONE = 0, SUNZHEG_OCTET = 1, SUNZHEG_TYPED = 2 };
 enum { SUNZHEG_HEADER = 12, SUNZHEG_MAX_BODY = 66000, SUNZHEG_MAX_DATA = 65536, SUNZHEG_MAX_NAME = 31 };
 enum { SUNZHEG_MAX_WORD = 255, SUNZHEG_MAX_MODE = 3, SUNZHEG_NO_ROUTINE = 99, SUNZHEG_BAD_FRAME = 10 };
 
+/* The flags of a call by their bits in an OP, and the errors by their numbers in a REPLY; the last one is want of memory. */
+static const long sunzheg_flags[] = {TPNOBLOCK, TPNOTIME, TPNOREPLY, TPNOTRAN, TPSIGRSTRT};
+static const struct {
+    int number;
+    const char *name;
+} sunzheg_errors[] = {
+    {TPEINVAL, "TPEINVAL"}, {TPENOENT, "TPENOENT"}, {TPEITYPE, "TPEITYPE"}, {TPEOTYPE, "TPEOTYPE"}, {TPEBADDESC, "TPEBADDESC"},
+    {TPELIMIT, "TPELIMIT"}, {TPEBLOCK, "TPEBLOCK"}, {TPETIME, "TPETIME"}, {TPEPROTO, "TPEPROTO"}, {TPESYSTEM, "TPESYSTEM"},
+    {TPEMATCH, "TPEMATCH"}, {TPESVCFAIL, "TPESVCFAIL"}, {TPESVCERR, "TPESVCERR"}, {TPEEVENT, "TPEEVENT"}, {TPEOS, "TPEOS"},
+};
+enum { SUNZHEG_FLAGS = sizeof sunzheg_flags / sizeof sunzheg_flags[0], SUNZHEG_ERRORS = sizeof sunzheg_errors / sizeof sunzheg_errors[0] };
+
 int tperrno = 0;
+long tpurcode = 0;
 
 /* A buffer of tpalloc: what stands before its octets. */
 struct sunzheg_buffer {
@@ -189,6 +227,8 @@ static struct {
     uint32_t tag;
     jmp_buf back;
     int exits;
+    /* Of the frame that comes next. */
+    uint64_t place;
     uint8_t body[SUNZHEG_MAX_BODY];
     uint8_t answer[SUNZHEG_HEADER + SUNZHEG_MAX_BODY + SUNZHEG_HEADER];
     size_t count;
@@ -448,6 +488,13 @@ static void sunzheg_end(size_t place)
         sunzheg.answer[place + 4 + i] = (uint8_t)(length >> (24 - 8 * i));
 }
 
+static void sunzheg_put_kind(const struct sunzheg_buffer *buffer)
+{
+    sunzheg_put((uint64_t)buffer->kind, 1);
+    if (buffer->kind == SUNZHEG_TYPED)
+        sunzheg_put_word(buffer->subtype, strlen(buffer->subtype));
+}
+
 /* Puts data behind what stands there; answers what is wrong with it, or NULL. */
 static const char *sunzheg_put_data(char *data, long len)
 {
@@ -463,9 +510,7 @@ static const char *sunzheg_put_data(char *data, long len)
         return "the length is more than the buffer has";
     if (fields == NULL && len > SUNZHEG_MAX_DATA)
         return "data has at most 65,536 octets";
-    sunzheg_put((uint64_t)buffer->kind, 1);
-    if (buffer->kind == SUNZHEG_TYPED)
-        sunzheg_put_word(buffer->subtype, strlen(buffer->subtype));
+    sunzheg_put_kind(buffer);
     if (fields == NULL) {
         sunzheg_put((uint64_t)len, 4);
         sunzheg_put_octets(data, (size_t)len);
@@ -621,13 +666,13 @@ static int sunzheg_take_name(struct sunzheg_octets *rest, char name[SUNZHEG_MAX_
 }
 
 /* Takes data into a buffer; none of it is there where it is misread, or where a shape has another size here. */
-static int sunzheg_take_data(struct sunzheg_octets *rest, TPSVCINFO *info, const char **why)
+static int sunzheg_take_data(struct sunzheg_octets *rest, char **data, long *len, const char **why)
 {
     size_t kind, length, in_memory = 0;
     char subtype[SUNZHEG_MAX_NAME + 1] = "";
     struct sunzheg_octets taken;
-    info->data = NULL;
-    info->len = 0;
+    *data = NULL;
+    *len = 0;
     if (!sunzheg_take_number(rest, 1, &kind) || kind > SUNZHEG_TYPED)
         return 0;
     if (kind == SUNZHEG_NONE)
@@ -641,17 +686,161 @@ static int sunzheg_take_data(struct sunzheg_octets *rest, TPSVCINFO *info, const
         *why = "the shape of its data has another size in TPSHAPES";
         return 1;
     }
-    info->len = (long)(fields != NULL ? in_memory : length);
-    info->data = sunzheg_new((int)kind, subtype, strlen(subtype), (size_t)info->len);
-    if (info->data == NULL)
+    *len = (long)(fields != NULL ? in_memory : length);
+    *data = sunzheg_new((int)kind, subtype, strlen(subtype), (size_t)*len);
+    if (*data == NULL)
         *why = "there is no memory for its data";
     else if (fields != NULL) {
         uint8_t *from = sunzheg.body + (taken.at - sunzheg.body);
-        sunzheg_convert(fields, info->data, from, 0, &in_memory);
+        sunzheg_convert(fields, *data, from, 0, &in_memory);
     } else if (length > 0)
-        memcpy(info->data, taken.at, length);
+        memcpy(*data, taken.at, length);
     return 1;
 }
+
+static void sunzheg_bad_frame(void)
+{
+    fprintf(stderr, "bad frame at %llu\n", (unsigned long long)sunzheg.place);
+    exit(SUNZHEG_BAD_FRAME);
+}
+
+/* Reads the next frame, its body into sunzheg.body, and answers its kind; the server ends where its input does. */
+static int sunzheg_next_frame(uint32_t *tag, size_t *length)
+{
+    uint8_t header[SUNZHEG_HEADER];
+    size_t had = sunzheg_read(header, SUNZHEG_HEADER);
+    if (had == 0)
+        exit(EXIT_SUCCESS);
+    if (had < SUNZHEG_HEADER || memcmp(header, "XA\1", 3) != 0)
+        sunzheg_bad_frame();
+    if (header[3] != SUNZHEG_INVOKE && header[3] != SUNZHEG_REPLY && header[3] != SUNZHEG_SHUTDOWN)
+        sunzheg_bad_frame();
+    *length = (size_t)sunzheg_number(header + 4, 4);
+    *tag = (uint32_t)sunzheg_number(header + 8, 4);
+    if (*length > SUNZHEG_MAX_BODY || sunzheg_read(sunzheg.body, *length) < *length)
+        sunzheg_bad_frame();
+    return header[3];
+}
+
+/* ---- calls that a service makes */
+
+const char *tpstrerror(int err)
+{
+    for (size_t i = 0; i < SUNZHEG_ERRORS; i++)
+        if (sunzheg_errors[i].number == err)
+            return sunzheg_errors[i].name;
+    return NULL;
+}
+
+static int sunzheg_refuse(int error)
+{
+    tperrno = error;
+    return -1;
+}
+
+/* Takes the number of an error. */
+static int sunzheg_take_error(struct sunzheg_octets *rest)
+{
+    size_t number;
+    if (!sunzheg_take_number(rest, 1, &number) || number < 1 || number > SUNZHEG_ERRORS)
+        sunzheg_bad_frame();
+    return sunzheg_errors[number - 1].number;
+}
+
+/* Takes an answer, whose data goes where *odata is, and answers the error, or 0. */
+static int sunzheg_take_answer(struct sunzheg_octets *rest, char **odata, long *olen)
+{
+    size_t descriptor, outcome = 0, code = 0;
+    const char *why = NULL;
+    char *data = NULL;
+    long len = 0;
+    if (!sunzheg_take_number(rest, 8, &descriptor) || descriptor != 0 || !sunzheg_take_number(rest, 1, &outcome) || outcome > 2)
+        sunzheg_bad_frame();
+    if (outcome == 2)
+        return sunzheg_take_error(rest);
+    tperrno = TPEOTYPE; /* Its shape has another size here; of want of memory sunzheg_new says TPEOS. */
+    if (!sunzheg_take_number(rest, 4, &code) || !sunzheg_take_data(rest, &data, &len, &why))
+        sunzheg_bad_frame();
+    if (why != NULL)
+        return tperrno;
+    tpurcode = (int32_t)(uint32_t)code;
+    *olen = len;
+    if (data != NULL) {
+        int is_request = *odata == sunzheg.request;
+        tpfree(*odata);
+        *odata = data;
+        if (is_request)
+            sunzheg.request = data;
+    }
+    return outcome == 0 ? 0 : TPESVCFAIL;
+}
+
+/* Makes the call of the OP that stands there, and reads what becomes of it; `wanted` is the REPLY that is no error. */
+static int sunzheg_ask(size_t place, size_t wanted, char **odata, long *olen)
+{
+    uint32_t tag;
+    size_t length, told;
+    int error = 0;
+    sunzheg_end(place);
+    sunzheg_write();
+    if (sunzheg_next_frame(&tag, &length) != SUNZHEG_REPLY || tag != sunzheg.tag)
+        sunzheg_bad_frame();
+    struct sunzheg_octets rest = {sunzheg.body, length};
+    if (!sunzheg_take_number(&rest, 1, &told) || (told != SUNZHEG_ERROR && told != wanted))
+        sunzheg_bad_frame();
+    if (told == SUNZHEG_ERROR)
+        error = sunzheg_take_error(&rest);
+    else if (told == SUNZHEG_ANSWER)
+        error = sunzheg_take_answer(&rest, odata, olen);
+    if (rest.count != 0)
+        sunzheg_bad_frame();
+    sunzheg.place += SUNZHEG_HEADER + length;
+    return error == 0 ? 0 : sunzheg_refuse(error);
+}
+
+int tpcall(const char *svc, char *idata, long ilen, char **odata, long *olen, long flags)
+{
+    long known = TPNOCHANGE, bits = 0;
+    for (int i = 0; i < SUNZHEG_FLAGS; i++) {
+        known |= sunzheg_flags[i];
+        bits |= (flags & sunzheg_flags[i]) != 0 ? 1L << i : 0;
+    }
+    if (sunzheg.service == NULL)
+        return sunzheg_refuse(TPEPROTO);
+    if (svc == NULL || strlen(svc) > SUNZHEG_MAX_WORD || odata == NULL || olen == NULL || (flags & ~known) != 0)
+        return sunzheg_refuse(TPEINVAL);
+    struct sunzheg_buffer *expected = sunzheg_buffer_of(*odata);
+    if (expected == NULL)
+        return sunzheg_refuse(TPEINVAL);
+    sunzheg.count = 0;
+    size_t place = sunzheg_begin(SUNZHEG_OP, sunzheg.tag);
+    sunzheg_put(SUNZHEG_TPCALL, 1);
+    sunzheg_put((uint64_t)bits, 1);
+    sunzheg_put_word(svc, strlen(svc));
+    if (flags & TPNOCHANGE)
+        sunzheg_put_kind(expected);
+    else
+        sunzheg_put(SUNZHEG_NONE, 1);
+    if (sunzheg_put_data(idata, ilen) != NULL)
+        return sunzheg_refuse(TPEINVAL);
+    return sunzheg_ask(place, SUNZHEG_ANSWER, odata, olen);
+}
+
+int tpsprio(int prio, long flags)
+{
+    if (sunzheg.service == NULL)
+        return sunzheg_refuse(TPEPROTO);
+    if (flags != 0 && flags != TPABSOLUTE)
+        return sunzheg_refuse(TPEINVAL);
+    sunzheg.count = 0;
+    size_t place = sunzheg_begin(SUNZHEG_OP, sunzheg.tag);
+    sunzheg_put(SUNZHEG_TPSPRIO, 1);
+    sunzheg_put(flags == TPABSOLUTE, 1);
+    sunzheg_put((uint64_t)(int64_t)prio, 4);
+    return sunzheg_ask(place, SUNZHEG_DONE, NULL, NULL);
+}
+
+/* ---- the server */
 
 /* Calls the service of that name, which leaves by tpreturn or tpforward. */
 static void sunzheg_call(const char *routine, TPSVCINFO *info)
@@ -678,7 +867,7 @@ static void sunzheg_serve(const char *routine, TPSVCINFO *info, const char *why)
 }
 
 /* Answers an INVOKE, where its body is one. */
-static int sunzheg_invoke(size_t length)
+static void sunzheg_invoke(size_t length)
 {
     static const long flags[] = {0, TPNOREPLY, TPCONV | TPRECVONLY, TPCONV | TPSENDONLY};
     struct sunzheg_octets rest = {sunzheg.body, length};
@@ -687,11 +876,12 @@ static int sunzheg_invoke(size_t length)
     const char *why = NULL;
     size_t mode;
     if (!sunzheg_take_name(&rest, info.name) || !sunzheg_take_name(&rest, routine))
-        return 0;
-    if (!sunzheg_take_number(&rest, 1, &mode) || mode > SUNZHEG_MAX_MODE || !sunzheg_take_data(&rest, &info, &why))
-        return 0;
-    if (rest.count != 0)
-        return 0;
+        sunzheg_bad_frame();
+    if (!sunzheg_take_number(&rest, 1, &mode) || mode > SUNZHEG_MAX_MODE)
+        sunzheg_bad_frame();
+    if (!sunzheg_take_data(&rest, &info.data, &info.len, &why) || rest.count != 0)
+        sunzheg_bad_frame();
+    sunzheg.place += SUNZHEG_HEADER + length;
     info.flags = flags[mode];
     info.cd = 0;
     sunzheg.request = info.data;
@@ -699,45 +889,28 @@ static int sunzheg_invoke(size_t length)
     if (!sunzheg.exits)
         sunzheg_begin(SUNZHEG_NEXT, 0);
     sunzheg_write();
-    return 1;
-}
-
-static int sunzheg_bad_frame(uint64_t place)
-{
-    fprintf(stderr, "bad frame at %llu\n", (unsigned long long)place);
-    return SUNZHEG_BAD_FRAME;
 }
 
 /* Serves until SHUTDOWN, the end of the input or TPEXIT, and answers the status. */
 static int sunzheg_life(const char *name)
 {
-    uint8_t header[SUNZHEG_HEADER];
-    uint64_t place = 0;
     uint32_t invocation = 0;
-    size_t ready = sunzheg_begin(SUNZHEG_READY, 0);
+    size_t length, ready = sunzheg_begin(SUNZHEG_READY, 0);
     sunzheg_put_word(name, strlen(name));
     sunzheg_end(ready);
     sunzheg_begin(SUNZHEG_NEXT, 0);
     sunzheg_write();
-    for (;;) {
-        size_t had = sunzheg_read(header, SUNZHEG_HEADER);
-        if (had == 0)
+    while (!sunzheg.exits) {
+        uint32_t tag;
+        int kind = sunzheg_next_frame(&tag, &length);
+        if (kind == SUNZHEG_SHUTDOWN && length == 0 && tag == 0)
             return EXIT_SUCCESS;
-        size_t length = (size_t)sunzheg_number(header + 4, 4);
-        /* The other kinds come from servers, or answer what no server may ask yet. */
-        if (had < SUNZHEG_HEADER || memcmp(header, "XA\1", 3) != 0 || (header[3] != SUNZHEG_INVOKE && header[3] != SUNZHEG_SHUTDOWN))
-            return sunzheg_bad_frame(place);
-        if (length > (header[3] == SUNZHEG_INVOKE ? SUNZHEG_MAX_BODY : 0) || sunzheg_read(sunzheg.body, length) < length)
-            return sunzheg_bad_frame(place);
-        sunzheg.tag = (uint32_t)sunzheg_number(header + 8, 4);
-        if (header[3] == SUNZHEG_SHUTDOWN)
-            return sunzheg.tag == 0 ? EXIT_SUCCESS : sunzheg_bad_frame(place);
-        if (sunzheg.tag != ++invocation || !sunzheg_invoke(length))
-            return sunzheg_bad_frame(place);
-        if (sunzheg.exits)
-            return EXIT_SUCCESS;
-        place += SUNZHEG_HEADER + length;
+        if (kind != SUNZHEG_INVOKE || tag != ++invocation)
+            sunzheg_bad_frame();
+        sunzheg.tag = tag;
+        sunzheg_invoke(length);
     }
+    return EXIT_SUCCESS;
 }
 
 /* Takes the pipes, so that no service writes to the one or reads from the other. */

@@ -22,6 +22,21 @@ An error of a routine is told on standard error with its place, and its caller i
 returned, a text that is longer than its field, for example. A routine that isn't there is TPFAIL with code NO_ROUTINE, 99. A request
 of a shape that isn't named here is a Typed without fields, whose `octets` can be returned.
 
+A routine may call other services:
+
+    tpsprio(80, TPABSOLUTE)
+    try:
+        stock = tpcall("STOCK", Typed("order", item=7))
+    except TPError as error:
+        if error.name == "TPESVCFAIL":
+            print("refused with code", error.tpurcode, "and", error.data)
+
+tpcall(service, data, flags) waits for the answer and returns its data; tpurcode() is its code. What else becomes of the call is a
+TPError, with the error's `name` and number `tperrno` in XATMI, and for TPESVCFAIL the `tpurcode` and the `data` of the answer. Want of
+memory is TPEOS. Its flags are TPNOBLOCK, TPNOTIME, TPSIGRSTRT, TPNOTRAN, and TPNOCHANGE: then data of another kind than was sent
+is TPEOTYPE. tpsprio(priority, flags) sets the priority of the routine's next call or forward, with TPABSOLUTE, and else adds to it.
+Outside a routine both are TPEPROTO. A routine whose call is put on its own queue waits for good where no other server is there.
+
 Standard input and output belong to the monitor: from the import of this file on, print() and what else is written to standard
 output go to standard error, and standard input is empty. Without the words `server NAME`, serve() says how the server is started.
 """
@@ -34,15 +49,27 @@ import traceback
 from typing import NamedTuple
 
 __all__ = [
-    "TPCONV", "TPEXIT", "TPFAIL", "TPNOREPLY", "TPRECVONLY", "TPSENDONLY", "TPSUCCESS", "TPSVCINFO",
-    "Typed", "routine", "serve", "shape", "tpforward", "tpreturn",
+    "TPABSOLUTE", "TPCONV", "TPEXIT", "TPError", "TPFAIL", "TPNOBLOCK", "TPNOCHANGE", "TPNOREPLY", "TPNOTIME", "TPNOTRAN",
+    "TPRECVONLY", "TPSENDONLY", "TPSIGRSTRT", "TPSUCCESS", "TPSVCINFO",
+    "Typed", "routine", "serve", "shape", "tpcall", "tpforward", "tpreturn", "tpsprio", "tpurcode",
 ]
 
 TPFAIL, TPSUCCESS, TPEXIT = 0x1, 0x2, 0x0800_0000
 TPNOREPLY, TPCONV, TPSENDONLY, TPRECVONLY = 0x4, 0x400, 0x800, 0x1000
+TPNOBLOCK, TPSIGRSTRT, TPNOTRAN, TPNOTIME, TPABSOLUTE, TPNOCHANGE = 0x1, 0x2, 0x8, 0x20, 0x40, 0x100
 NO_ROUTINE, BAD_FRAME = 99, 10
 
-_READY, _NEXT, _RETURN, _FORWARD, _INVOKE, _SHUTDOWN = 0x01, 0x02, 0x04, 0x05, 0x11, 0x13
+_READY, _NEXT, _OP, _RETURN, _FORWARD, _INVOKE, _REPLY, _SHUTDOWN = 0x01, 0x02, 0x03, 0x04, 0x05, 0x11, 0x12, 0x13
+# The numbers of an OP and of a REPLY, and of each flag in an OP.
+_TPCALL, _TPSPRIO = 1, 10
+_DONE, _ANSWER, _ERROR = 0, 3, 6
+_CALL_FLAGS = {TPNOBLOCK: 1, TPNOTIME: 2, TPNOREPLY: 4, TPNOTRAN: 8, TPSIGRSTRT: 16}
+# The errors in the order of their numbers in a frame; the last one is want of memory.
+_ERRORS = [
+    "TPEINVAL", "TPENOENT", "TPEITYPE", "TPEOTYPE", "TPEBADDESC", "TPELIMIT", "TPEBLOCK", "TPETIME",
+    "TPEPROTO", "TPESYSTEM", "TPEMATCH", "TPESVCFAIL", "TPESVCERR", "TPEEVENT", "TPEOS",
+]
+_NUMBERS = dict(zip(_ERRORS, [4, 6, 17, 18, 2, 5, 3, 13, 9, 12, 23, 11, 10, 22, 7]))
 _OUTCOMES = {TPSUCCESS: 0, TPFAIL: 1, TPEXIT: 2}
 _FLAGS = [0, TPNOREPLY, TPCONV | TPRECVONLY, TPCONV | TPSENDONLY]
 _MOST_BODY, _MOST_DATA, _MOST_WORD = 66_000, 65_536, 255
@@ -52,6 +79,9 @@ _HEADER = struct.Struct(">2sBBII")
 _FORMS = {"short": "h", "int": "i", "long": "q", "char": "B"}
 _routines, _shapes = {}, {}
 _input = _output = None
+# The invocation that is under way, the place of the frame that comes next, and the code of the last answer.
+_invocation = None
+_place = _code = 0
 
 
 class Typed(dict):
@@ -79,8 +109,16 @@ class Answer(NamedTuple):
     ends: bool
 
 
-class BadFrame(Exception):
-    """The octets are no frame, or a frame that may not come then."""
+class TPError(Exception):
+    """What became of a call, where it has no answer of TPSUCCESS: `data` and `tpurcode` are those of TPESVCFAIL."""
+
+    def __init__(self, name, tpurcode=0, data=None):
+        super().__init__(name)
+        self.name, self.tperrno, self.tpurcode, self.data = name, _NUMBERS[name], tpurcode, data
+
+
+class BadFrame(BaseException):
+    """The octets are no frame, or a frame that may not come then: it ends the server, through the routine that waits for it."""
 
 
 def shape(name, *fields):
@@ -110,6 +148,27 @@ def tpforward(service, data=None):
     return Answer(_FORWARD, _word(service, "a service") + _data(data), False)
 
 
+def tpcall(service, data=None, flags=0):
+    """Calls the service, waits, and returns the data of its answer."""
+    if flags & ~(TPNOCHANGE | sum(_CALL_FLAGS)) or flags & TPNOCHANGE and data is None:
+        raise TPError("TPEINVAL")
+    number = sum(octet for flag, octet in _CALL_FLAGS.items() if flags & flag)
+    expected = _kind(data) if flags & TPNOCHANGE else b"\0"
+    return _told(bytes([_TPCALL, number]) + _word(service, "a service") + expected + _data(data), _ANSWER)
+
+
+def tpsprio(priority, flags=0):
+    """Sets the priority of the next call or forward, with TPABSOLUTE; else it is added to that of the service."""
+    if flags & ~TPABSOLUTE or not -(2**31) <= priority < 2**31:
+        raise TPError("TPEINVAL")
+    _told(struct.pack(">BBi", _TPSPRIO, flags == TPABSOLUTE, priority), _DONE)
+
+
+def tpurcode():
+    """The code that the service gave that answered last."""
+    return _code
+
+
 def serve():
     """Serves until the monitor shuts the server down or closes its input, or a routine returned TPEXIT."""
     if _input is None:
@@ -122,26 +181,51 @@ def serve():
 
 
 def _serve(name):
+    global _invocation
     _write(_frame(_READY, 0, _word(name, "a name")) + _frame(_NEXT, 0))
-    place = invocation = 0
-    while _input.peek(1):
-        try:
-            kind, tag, body = _take_frame()
-            invocation = (invocation + 1) % 2**32
-            if tag != (invocation if kind == _INVOKE else 0):
+    count = 0
+    try:
+        while True:
+            kind, tag, body = _take_frame(_INVOKE, _SHUTDOWN)
+            count = (count + 1) % 2**32
+            if tag != (count if kind == _INVOKE else 0):
                 raise BadFrame
             if kind == _SHUTDOWN:
                 return 0
             called, request = _request(body)
-        except BadFrame:
-            print(f"bad frame at {place}", file=sys.stderr)
-            return BAD_FRAME
-        answer = _answer(called, request)
-        _write(_frame(answer.kind, tag, answer.body) + (b"" if answer.ends else _frame(_NEXT, 0)))
-        if answer.ends:
-            return 0
-        place += _HEADER.size + len(body)
-    return 0
+            _pass(body)
+            _invocation = tag
+            answer = _answer(called, request)
+            _invocation = None
+            _write(_frame(answer.kind, tag, answer.body) + (b"" if answer.ends else _frame(_NEXT, 0)))
+            if answer.ends:
+                return 0
+    except BadFrame:
+        print(f"bad frame at {_place}", file=sys.stderr)
+        return BAD_FRAME
+
+
+def _told(op, wanted):
+    """Makes the call of that OP, and answers what it is told by a REPLY: the data, where an answer is wanted."""
+    global _code
+    if _invocation is None:
+        raise TPError("TPEPROTO")
+    _write(_frame(_OP, _invocation, op))
+    _, tag, octets = _take_frame(_REPLY)
+    error, code, data = _reply(octets, wanted)
+    if tag != _invocation:
+        raise BadFrame
+    _pass(octets)
+    found = None
+    if data is not None:
+        try:
+            found = _taken(*data)
+        except ValueError as wrong:
+            raise TPError("TPEOTYPE") from wrong
+        _code = code
+    if error:
+        raise TPError(error, code, found)
+    return found
 
 
 def _answer(called, request):
@@ -177,12 +261,17 @@ def _word(text, what):
     return bytes([len(octets)]) + octets
 
 
+def _kind(data):
+    if isinstance(data, Typed):
+        return b"\2" + _word(data.shape, "a shape's name")
+    return b"\0" if data is None else b"\1"
+
+
 def _data(data):
     if data is None:
         return b"\0"
-    front, octets = b"\1", data
+    octets = data
     if isinstance(data, Typed):
-        front = b"\2" + _word(data.shape, "a shape's name")
         octets = data.octets if data.octets is not None else _packed(data.shape, data)
     elif isinstance(data, str):
         octets = data.encode("utf-8", "surrogateescape")
@@ -190,7 +279,7 @@ def _data(data):
         raise TypeError(f"data is None, bytes, a text or a Typed, and not {type(data).__name__}")
     if len(octets) > _MOST_DATA:
         raise ValueError(f"data has at most {_MOST_DATA} octets, and not {len(octets)}")
-    return front + struct.pack(">I", len(octets)) + octets
+    return _kind(data) + struct.pack(">I", len(octets)) + octets
 
 
 def _form(fields):
@@ -246,14 +335,20 @@ def _read(count):
     return octets
 
 
-def _take_frame():
+def _take_frame(*kinds):
+    """The next frame, which must be of one of these kinds. The server ends where its input does."""
+    if not _input.peek(1):
+        sys.exit(0)
     first, version, kind, length, tag = _HEADER.unpack(_read(_HEADER.size))
-    if (first, version) != (b"XA", 1) or length > _MOST_BODY:
-        raise BadFrame
-    # The other kinds come from servers, or answer what no server may ask yet.
-    if kind != _INVOKE and (kind != _SHUTDOWN or length):
+    if (first, version) != (b"XA", 1) or length > _MOST_BODY or kind not in kinds or kind == _SHUTDOWN and length:
         raise BadFrame
     return kind, tag, _read(length)
+
+
+def _pass(body):
+    """The frame with that body was read and is one."""
+    global _place
+    _place += _HEADER.size + len(body)
 
 
 class _Body:
@@ -274,6 +369,12 @@ class _Body:
         if not 1 <= len(octets) <= 31 or octets[:1] == b"." or not all(0x21 <= octet <= 0x7E for octet in octets):
             raise BadFrame
         return octets.decode()
+
+    def error(self):
+        number = self.number(1)
+        if not 1 <= number <= len(_ERRORS):
+            raise BadFrame
+        return _ERRORS[number - 1]
 
     def data(self):
         """The subtype, or none, and the octets, or none."""
@@ -297,6 +398,28 @@ def _request(octets):
     if data is None or body.at < len(octets):
         raise BadFrame
     return called, TPSVCINFO(service, data, _FLAGS[mode])
+
+
+def _reply(octets, wanted):
+    """What a REPLY tells: the error, or none; the code; and the data as it came, or none where it is no answer."""
+    body = _Body(octets)
+    told, error, code, data = body.number(1), None, 0, None
+    if told == _ERROR:
+        error = body.error()
+    elif told != wanted:
+        raise BadFrame
+    elif told == _ANSWER:
+        descriptor, outcome = body.number(8), body.number(1)
+        if descriptor or outcome > 2:
+            raise BadFrame
+        if outcome == 2:
+            error = body.error()
+        else:
+            error = "TPESVCFAIL" if outcome else None
+            code, data = int.from_bytes(body.take(4), "big", signed=True), body.data()
+    if body.at < len(octets):
+        raise BadFrame
+    return error, code, data
 
 
 def _take_the_pipes():

@@ -81,7 +81,7 @@ while True:
     if routine == b"TAG": frame(4, 7, ok + b"\\0")
     elif routine == b"SHAPE": frame(4, tag, ok + b"\\2" + word(b"none") + bytes(4))
     elif routine == b"SIZE": frame(4, tag, ok + b"\\2" + word(b"pair") + struct.pack(">I", 3) + b"abc")
-    elif routine == b"OP": frame(3, tag, bytes([1, 2]) + word(b"ECHO") + bytes(2))
+    elif routine == b"OP": frame(3, tag, bytes([2, 2]) + word(b"ECHO") + bytes(1))
     elif routine == b"AWAY": frame(5, tag, word(b"NONE") + b"\\0")
     elif routine == b"GREET": frame(1, 0, word(name))
     elif routine == b"SLEEP": time.sleep(99)
@@ -91,17 +91,17 @@ while True:
 """
 
 # Of a frame that is written before the next INVOKE comes, or behind it.
-AHEAD = "ahead of its turn, and out of turn where another INVOKE comes: RETURN or FORWARD with tag 2 is due then"
-BEHIND = "out of turn: RETURN or FORWARD with tag 2 is due, and RETURN with tag 10 came"
+AHEAD = "ahead of its turn, and out of turn where another INVOKE comes: OP, RETURN or FORWARD with tag 2 is due then"
+BEHIND = "out of turn: OP, RETURN or FORWARD with tag 2 is due, and RETURN with tag 10 came"
 
 # A routine of that server, how often its calls fail, and why.
 REASONS = [
-    ("TAG", 1, "out of turn: RETURN or FORWARD with tag 1 is due, and RETURN with tag 7 came"),
+    ("TAG", 1, "out of turn: OP, RETURN or FORWARD with tag 1 is due, and RETURN with tag 7 came"),
     ("SHAPE", 1, "unsound: no shape is named 'none'"),
     ("SIZE", 1, "unsound: the shape 'pair' has 8 octets, and not 3"),
-    ("OP", 1, "out of turn: RETURN or FORWARD with tag 3 is due, and OP with tag 3 came"),
+    ("OP", 1, "out of turn: OP, RETURN or FORWARD with tag 3 is due, and OP with tag 3 came: tpacall, which the monitor doesn't make"),
     ("AWAY", 1, "fails: no service 'NONE' takes it"),
-    ("GREET", 1, "out of turn: RETURN or FORWARD with tag 2 is due, and READY with tag 0 came"),
+    ("GREET", 1, "out of turn: OP, RETURN or FORWARD with tag 2 is due, and READY with tag 0 came"),
     ("AHEAD", 0, AHEAD),
     ("FINE", 1, ""),
 ]

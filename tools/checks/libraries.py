@@ -14,7 +14,7 @@ void ECHO(TPSVCINFO *request)
 }
 """
 
-# The same server in C and in Python: typed data by its shape, and what may not be returned.
+# The same server in C and in Python: typed data by its shape, what may not be returned, and calls of other services.
 IN_C = r"""#include <stdint.h>
 #include <stdio.h>
 #include <string.h>
@@ -41,11 +41,26 @@ void WRONG(TPSVCINFO *request) { char local[4] = ""; (void)request; tpreturn(TPS
 void WIDE(TPSVCINFO *request) { (void)request; tpreturn(TPSUCCESS, 1L << 40, NULL, 0, 0); }
 void NOTHING(TPSVCINFO *request) { (void)request; }
 void EXIT(TPSVCINFO *request) { (void)request; tpreturn(TPEXIT, 5, NULL, 0, 0); }
+void ASK(TPSVCINFO *request)
+{
+    struct all *all = (struct all *)tpalloc(X_C_TYPE, "all", sizeof *all);
+    char *back = tpalloc(X_OCTET, NULL, 4);
+    long count = 5;
+    all->a = (short)(tpsprio(60, TPABSOLUTE) + tpcall("ECHO", request->data, 0, &back, &count, TPNOCHANGE) + tperrno);
+    all->b = tpcall("LEN", request->data, 0, &back, &count, TPNOTIME) + (int)tpurcode + (int)count;
+    all->c = tpcall("FAIL", request->data, 0, &back, &count, TPNOBLOCK) * tperrno * tpurcode;
+    all->d = (unsigned char)((struct all *)back)->b;
+    tpcall("NOBODY", NULL, 0, &back, &count, 0);
+    memcpy(all->e, tpstrerror(tperrno) + 2, 4);
+    tpreturn(TPSUCCESS, count == sizeof *all, (char *)all, 0, 0);
+}
 """
 IN_PYTHON = """#!/usr/bin/env python3
 import sys
 sys.path.insert(0, %r)
-from sunzheg import TPEXIT, TPFAIL, TPSUCCESS, Typed, routine, serve, shape, tpforward, tpreturn
+from sunzheg import *
+try: tpcall("ECHO")
+except TPError as error: print(error.name)
 shape("all", "a short", "b int", "c long", "d char", "e string 4")
 @routine("ADD")
 def add(request):
@@ -65,7 +80,26 @@ def wide(request): return tpreturn(TPSUCCESS, 1 << 40)
 def nothing(request): return 7
 @routine("EXIT")
 def leave(request): return tpreturn(TPEXIT, 5)
+@routine("ASK")
+def ask(request):
+    tpsprio(60, TPABSOLUTE)
+    found = Typed("all", a=17 if tpcall("ECHO", request.data, TPNOCHANGE) == request.data else 0)
+    assert tpcall("LEN", request.data, TPNOTIME) is None
+    found["b"] = tpurcode()
+    try: tpcall("FAIL", request.data, TPNOBLOCK)
+    except TPError as error: found["c"], found["d"] = -error.tperrno * error.tpurcode, error.data["b"]
+    try: tpcall("NOBODY")
+    except TPError as error: found["e"] = error.name[2:6]
+    return tpreturn(TPSUCCESS, 1, found)
 serve()
+"""
+# The services that it calls, of the monitor's own program.
+CALLED = """[[queue]]
+name = "OTHER"
+[[server]]
+name = "T"
+queue = "OTHER"
+program = "%s"
 """
 # The item that the servers of docs/protocol.md price, and what becomes of it.
 ITEM = """[[shape]]
@@ -79,7 +113,7 @@ accepts = ["c:item"]
 PRICED = """a 1 OK 0 c:item 70656e00000000000000000000000000000000030000000000000168
 a 2 TPESVCFAIL 0 c:item 70656e00000000000000000000000000ffffffffffffffffffffff88
 """
-SERVED = "ADD MAKE ON WRONG WIDE NOTHING NONE EXIT".split()
+SERVED = "ADD MAKE ON WRONG WIDE NOTHING NONE ASK EXIT".split()
 TOLD = """a 1 TPESVCFAIL -3 c:all fffe000000080000000000000004c87778797a
 a 2 OK 7 c:all 000000000000fffffffffffffffe0000000000
 a 3 TPESVCFAIL -3 c:all fffe000000080000000000000004c87778797a
@@ -87,7 +121,8 @@ a 4 TPESVCERR
 a 5 TPESVCERR
 a 6 TPESVCERR
 a 7 TPESVCFAIL 99 none
-a 8 TPESVCFAIL 5 none
+a 8 OK 1 c:all 001100000013ffffffffffffffb307454e4f45
+a 9 TPESVCFAIL 5 none
 """
 
 
@@ -110,11 +145,15 @@ def served(report, program, room):
         tried(report, f"{room}/standard")
         for how in ["in Python", f"in C by {compiler}"]:
             config = '[[shape]]\nname = "all"\nfields = ["a short", "b int", "c long", "d char", "e string 4"]\n' + GOOD % servers[how]
+            config = config.replace('"ECHO"\nqueues = ["Q"]', '"ECHO"\nqueues = ["OTHER"]') + CALLED % program
             config += "".join(f'[[service]]\nname = "{name}"\nqueues = ["Q"]\n' for name in SERVED)
+            config += "".join(f'[[service]]\nname = "{name}"\nqueues = ["OTHER"]\n' for name in ("LEN", "FAIL"))
             written(f"{room}/config", config)
             script = "client a\n" + "".join(f'call {name} c all a=-3 b=7 c=3 d=199 e="abc"\n' for name in SERVED)
             status, told, said = run([program, "run", f"{room}/config"], script)
             report.case(f"the libraries: a server {how}", (status, told, said.count("printed by ADD"), said.count("TPESVCERR")), (0, TOLD, 2, 3))
+            if how == "in Python":
+                report.case("sunzheg.py: a call outside a routine", said.count("TPEPROTO"), 1)
         done = run([compiler, *flags, "-DTPSERVICES=PRICE", "-o", f"{room}/price", folder / "price.c"])
         report.case(f"price.c: {compiler} says nothing", done, (0, "", ""))
     for server in ("examples/servers/smallest.py", "examples/servers/echo.py"):

@@ -20,7 +20,7 @@ SLIPS = {
         'struct.pack(">2sBBII"', 'struct.pack("<2sBBII"', "a body has at most 66,000 octets, and not 33,554,432"),
     "it answers with another tag": (
         "write(0x04, tag, struct.pack(\">Bi\", 0", "write(0x04, tag + 1, struct.pack(\">Bi\", 0",
-        "at octet 26 RETURN or FORWARD is due behind INVOKE with tag 1, and RETURN with tag 2 came"),
+        "at octet 26 OP, RETURN or FORWARD is due behind INVOKE with tag 1, and RETURN with tag 2 came"),
     "no NEXT follows its RETURN": (
         "while True:\n    write(0x02, 0)", "write(0x02, 0)\nwhile True:\n    pass", "at octet 44 nothing more came for 2 s"),
     "an octet too many stands in its RETURN": (
@@ -29,12 +29,18 @@ SLIPS = {
         '0, 0) + data)', r'0, 0) + data.replace(b"\n", b"\r\n"))',
         "wrong X_OCTET of 65,536 octets with all values", "octets stand behind the last field"),
     "it takes a part for the whole": (
-        "sys.stdin.buffer.read(count)", "os.read(0, count)", "RETURN or FORWARD is due behind INVOKE, and it ended with status 0"),
+        "sys.stdin.buffer.read(count)", "os.read(0, count)", "OP, RETURN or FORWARD is due behind INVOKE, and it ended with status 0"),
     "a routine that it doesn't have ends it": (
         "    else:\n", "    else:\n        sys.exit(1)\n", "wrong a routine that it doesn't have: ", "and it ended with status 1"),
-    "it makes a call": (
-        "write(0x04, tag, struct.pack(\">Bi\", 0, 0) + data)", r'write(0x03, tag, b"\x0c\4ECHO")',
-        "and OP with tag 1 came, which is no call that the monitor performs yet: OP 1: tpunadvertise, service 'ECHO'"),
+    "it makes a call that isn't built": (
+        "write(0x04, tag, struct.pack(\">Bi\", 0, 0) + data)", r'write(0x03, tag, b"\2\0\4ECHO\0")',
+        "and OP with tag 1 came, which is no call that the monitor makes: OP 1: tpacall, service 'ECHO', no data"),
+    "it makes a call with another tag": (
+        "write(0x04, tag, struct.pack(\">Bi\", 0, 0) + data)", r'write(0x03, 9, b"\1\0\4ECHO\0\0")',
+        "is due behind INVOKE with tag 1, and OP with tag 9 came: OP 9: tpcall, service 'ECHO', no data"),
+    "it reads no REPLY": (
+        "write(0x04, tag, struct.pack(\">Bi\", 0, 0) + data)", r'write(0x03, tag, b"\1\0\4ECHO\0\0")',
+        "at octet 47 OP, RETURN or FORWARD is due behind REPLY with tag 1, and NEXT with tag 0 came"),
     "it goes on behind SHUTDOWN": (
         "        break\n", "        import time; time.sleep(99)\n", "wrong a greeting, and SHUTDOWN: it goes on 2 s behind SHUTDOWN"),
     "it goes on behind the end of its input": (
@@ -46,6 +52,20 @@ SLIPS = {
         "write(0x04, tag, struct.pack(\">Bi\", 0, 0) + data)", r'forward(tag, b"NONE", b"")',
         "FORWARD to 'NONE' fails, since no service of that name takes such data"),
 }
+
+# A server whose service makes two calls, and ends where the second isn't told the error that it wants.
+CALLS = """#!/usr/bin/env python3
+import os, sys
+sys.path.insert(0, %r)
+from sunzheg import *
+@routine("ECHO")
+def echo(request):
+    tpsprio(70, TPABSOLUTE)
+    try: error, data = 0, tpcall(os.environ["CALLED"], request.data, TPNOBLOCK | (TPNOCHANGE if request.data else 0))
+    except TPError as told: error, data = told.tperrno, request.data
+    if (error, data) != (int(os.environ["ERROR"]), request.data): os._exit(3)
+serve()
+"""
 
 PAIR = '[[shape]]\nname = "pair"\nfields = ["a int", "b string 4"]\n'
 
@@ -65,6 +85,12 @@ def first_wrong(words):
 def trials(report, program, room):
     for server in (ECHO, program):
         report.case(f"trial: {server}", run([TOOLS / "trial", server])[0], 0)
+    for calls in ("TPENOENT", "TPESVCFAIL", "echo"):
+        report.case(f"trial: its calls are told {calls}", run([TOOLS / "trial", "--calls", calls, ECHO, "RELAY"])[0], 0)
+    server = written(f"{room}/server", CALLS % str(ECHO.parent), 0o755)
+    for calls, called, error in (("NOMEM", "X", 7), ("TPESVCFAIL", "X", 11), ("echo", "X", 0), ("echo", ".X", 4)):
+        found = run([TOOLS / "trial", "--calls", calls, server], env=os.environ | {"CALLED": called, "ERROR": str(error)})
+        report.case(f"trial: its calls of {called} are told {calls}", (found[0], "wrong" in found[1]), (0, False))
     config, smallest = written(f"{room}/config", PAIR + GOOD % ECHO), (TOP / SMALLEST).read_text()
     for slip, (old, new, *wanted) in SLIPS.items():
         server = written(f"{room}/server", smallest.replace(old, new, 1), 0o755)

@@ -134,6 +134,31 @@ def waits_watched(report, program, room):
     report.case("watch: who waits, passed on", found, [("b", "SLEEP50", "T", 50)] if has == "SLEEP60" else [("a", "SLEEP60", "", 60)])
 
 
+# A service calls others: one answers, one isn't there, and one waits for the queue's one server, which is the caller's.
+CALLS = """client a
+call RELAY text "ECHO hi"
+call RELAY text "NONE hi"
+call RELAY text "RELAY hi"
+"""
+CALLED = [
+    "OP 1: tpcall, service 'ECHO', X_OCTET, 2 octets 'hi'", "REPLY 1: an answer, TPSUCCESS, code 0, X_OCTET, 2 octets 'hi'",
+    "OP 2: tpcall, service 'NONE', X_OCTET, 2 octets 'hi'", "REPLY 2: an error, TPENOENT",
+    "OP 3: tpcall, service 'RELAY', X_OCTET, 2 octets 'hi'",
+]
+
+
+def calls_watched(report, program, room):
+    """The calls that services make."""
+    lines = waiting_at_last(written(f"{room}/config", GOOD % program + PASSED.replace("PASS", "RELAY")), CALLS)
+    report.case("watch: calls of services", [line["what"] for line in lines if line.get("frame") in ("OP", "REPLY")], CALLED)
+    owed = [line["what"] for line in lines if line["is"] == "awaited"]
+    report.case("watch: a REPLY is awaited", owed, [f"still awaited: REPLY, behind {CALLED[-1]}"])
+    found = [(line["queue"], [(each["server"], each["service"]) for each in line["requests"]]) for line in lines if line["is"] == "waits"][:1]
+    report.case("watch: a service's call waits", found, [("P", [("T", "RELAY")])])
+    rows = {line["service"]: (line["calls"], line["failed"]) for line in lines if line["is"] == "service"}
+    report.case("watch: calls of services are counted", rows, {"ECHO": (1, 0), "NONE": (1, 1), "RELAY": (2, 1)})
+
+
 def stops_watched(report, program, room):
     """A watch that is ended, by a signal or as nobody reads what it says, leaves no process and no transcript."""
     config, mark = odd(room), f"WATCHED={room}"
@@ -150,7 +175,7 @@ def stops_watched(report, program, room):
             wait_for(lambda: number != signal.SIGKILL or not with_mark(mark))
             report.case(f"watch: {number.name} leaves nothing", (status, told, with_mark(mark)), (-number, b"", []))
             text = content(said)
-    report.has("watch: who waits, in words", text, "still awaited: RETURN or FORWARD, behind INVOKE 1: SLEEP",
+    report.has("watch: who waits, in words", text, "still awaited: OP, RETURN or FORWARD, behind INVOKE 1: SLEEP",
                "queue Q: 2 requests wait; ", " at the earliest")
     # Behind the sixth line there is nothing more to tell.
     for lines in (1, 3, 6):
@@ -196,4 +221,4 @@ def lives_watched(report, program, room):
         report.has("watch: their calls failed", said, "ECHO                                  4       4")
 
 
-ALL = (watched, reasons_watched, waits_watched, stops_watched, lives_watched)
+ALL = (watched, reasons_watched, waits_watched, calls_watched, stops_watched, lives_watched)

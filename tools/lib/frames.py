@@ -32,6 +32,8 @@ OPERATIONS = {
     12: ("tpunadvertise", "service"),
     13: ("a tick of the clock", "ticks"),
 }
+# Those that the monitor makes; another one is out of turn.
+MADE = ["tpcall", "tpsprio"]
 # What a REPLY tells, by its number.
 REPLIES = {
     0: ("done", ""),
@@ -66,8 +68,25 @@ def struct_data(subtype, octets):
     return b"\2" + name(subtype) + struct.pack(">I", len(octets)) + octets
 
 
+def data_of(subtype, octets):
+    return NO_DATA if octets is None else octet_data(octets) if subtype is None else struct_data(subtype, octets)
+
+
 def invoke(tag, service, routine, data=NO_DATA, mode=0):
     return frame(INVOKE, tag, name(service) + name(routine) + bytes([mode]) + data)
+
+
+def reply_done(tag):
+    return frame(REPLY, tag, b"\0")
+
+
+def reply_error(tag, error):
+    return frame(REPLY, tag, bytes([6, 1 + ERRORS.index(error)]))
+
+
+def reply_answer(tag, outcome, data):
+    """Of a tpcall, with TPSUCCESS or TPFAIL and code 0."""
+    return frame(REPLY, tag, struct.pack(">BQBi", 3, 0, OUTCOMES.index(outcome), 0) + data)
 
 
 def first_frame(octets):
@@ -142,7 +161,7 @@ class Body:
         number = self.number(1)
         if number > 2:
             raise NoFrame(f"there is no buffer of kind {number:02x}")
-        return [None, "X_OCTET"][number] if number < 2 else f"X_C_TYPE {self.name().decode()}"
+        return None if number == 0 else kind_of(self.name() if number == 2 else None)
 
     def field(self, what, found):
         """Takes the field of an OP or a REPLY."""
@@ -150,9 +169,10 @@ class Body:
             found["subtype"], found["data"] = self.data()
         elif what == "answer":
             outcome = self.choice("the u8 of an answer", ["TPSUCCESS", "TPFAIL", "an error"])
+            if outcome != "an error":
+                found["outcome"] = outcome
             for each in ["error"] if outcome == "an error" else ["code", "data"]:
                 self.field(each, found)
-            found.setdefault("outcome", outcome)
         else:
             found[what] = FIELDS[what](self)
 
@@ -215,6 +235,12 @@ def fields(kind, body):
     return found
 
 
+def either(kinds):
+    """The names of these kinds of frame, with `or` before the last."""
+    names = [NAMES[kind] for kind in kinds]
+    return " or ".join([", ".join(names[:-1]), names[-1]] if names[1:] else names)
+
+
 def shown(octets, most=24):
     """Some octets, as text where they are printed ASCII."""
     more = ".." if len(octets) > most else ""
@@ -224,11 +250,14 @@ def shown(octets, most=24):
     return (front.hex(" ") or "nothing") + more
 
 
+def kind_of(subtype):
+    return "X_OCTET" if subtype is None else f"X_C_TYPE {subtype.decode()}"
+
+
 def shown_data(subtype, octets):
     if octets is None:
         return "no data"
-    kind = "X_OCTET" if subtype is None else f"X_C_TYPE {subtype.decode()}"
-    return f"{kind}, {len(octets):,} octets {shown(octets)}" if octets else f"{kind}, 0 octets"
+    return f"{kind_of(subtype)}, {len(octets):,} octets {shown(octets)}" if octets else f"{kind_of(subtype)}, 0 octets"
 
 
 def told(kind, tag, found):
@@ -257,8 +286,10 @@ def shown_fields(found):
         if what in ("service", "routine"):
             yield f"{what} {shown(value)}"
         elif what == "flags":
-            yield " ".join(value) or "no flags"
+            yield from value
+        elif what == "kind":
+            yield from [f"TPNOCHANGE {value}"] if value else []
         elif what == "data":
             yield shown_data(found["subtype"], value)
-        elif what not in ("does", "subtype"):
-            yield value if isinstance(value, str) else f"{what} {'none' if value is None else value}"
+        elif what not in ("does", "subtype") and not (what == "descriptor" and value == 0 and found["does"] == "an answer"):
+            yield value if isinstance(value, str) else f"{what} {value}"

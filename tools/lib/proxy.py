@@ -124,11 +124,13 @@ class Proxy:
             wrong = self.turns.wrote(kind, tag, found) if way == "from" else self.turns.got(kind, tag)
         if wrong:
             more["wrong"] = wrong
-        if kind in (frames.INVOKE, frames.FORWARD):
+        if "service" in found:
             more["service"] = found["service"].decode("latin-1")
-        if kind == frames.RETURN:
-            more["outcome"] = found["outcome"]
-        if kind in (frames.INVOKE, frames.FORWARD, frames.RETURN):
+        if kind in (frames.RETURN, frames.REPLY):
+            more["outcome"] = found.get("error", found.get("outcome", found.get("does")))
+        if kind == frames.OP:
+            more |= {"does": found["does"]} | {each: found[each] for each in ("absolute", "number") if each in found}
+        if "data" in found:
             more["data"] = mark(found["subtype"] and found["subtype"].decode(), found["data"])
         self.note("frame", way=way, **more)
 

@@ -11,7 +11,7 @@ from configuration import NAME, entries_of, names_of, texts_of
 
 
 class Request(NamedTuple):
-    """A request of a client, or of nobody known where no call of the script has its data."""
+    """A request of a client or of a server's service, or of nobody known where no call of the script has its data."""
 
     client: str
     call: int
@@ -26,6 +26,8 @@ class Request(NamedTuple):
     # Who forwarded it, or the empty text, and how many others it may be in place of.
     by: str
     others: int
+    # The server whose service made the call, if no client did.
+    server: str = ""
 
 
 class Services:
@@ -63,6 +65,8 @@ class Waiting:
         self.at = dict.fromkeys(calls, 0)
         self.since = dict.fromkeys(calls, None)
         self.in_hand, self.forwarded = {}, []
+        # Of each server the call of its service that no other server has taken, and what it set for the priority of the next request.
+        self.asked, self.set = {}, {}
         self.silent = {server for servers in self.services.servers.values() for server in servers}
         # The servers that are given up, and the services that have no other.
         self.gone, self.down = set(), set()
@@ -86,8 +90,9 @@ class Waiting:
         return {each.client for each in [*self.in_hand.values(), *self.forwarded]}
 
     def out(self):
-        """The requests that wait, of those that are known: the forwarded ones, and one a client that has more calls."""
+        """The requests that wait, of those that are known: the forwarded ones, those of services, and one a client that has more calls."""
         yield from self.forwarded
+        yield from self.asked.values()
         busy = self.busy()
         for client, since in self.since.items():
             call = self.call_of(client) if since is not None and client not in busy else None
@@ -112,6 +117,9 @@ class Waiting:
             request = found[0]._replace(others=len(found) - 1)
             if request.by:
                 self.forwarded.remove(found[0])
+            elif request.server:
+                del self.asked[request.server]
+                self.set.pop(request.server, None)
         elif later := sorted(self.later(service, data), key=lambda each: each[0]):
             _, client, call, place = later[0]
             self.at[client] = place
@@ -132,8 +140,29 @@ class Waiting:
             self.answer(request, when)
             return False
         word = service.decode()
-        self.forwarded.append(request._replace(service=word, data=data, priority=self.services.priority(word), since=when, by=server))
+        priority = self.priority(server, word)
+        self.set.pop(server, None)
+        self.forwarded.append(request._replace(service=word, data=data, priority=priority, since=when, by=server))
         return True
+
+    def sets(self, server, absolute, number):
+        """A service set the priority of its server's next request."""
+        self.set[server] = absolute, number
+
+    def priority(self, server, service):
+        """That of a request of this server's service to that service."""
+        usual = self.services.priority(service)
+        absolute, number = self.set.get(server, (False, 0))
+        return min(100, max(1, number + (0 if absolute else usual)))
+
+    def asks(self, server, service, data, when):
+        """A service calls another."""
+        self.asked[server] = Request("", 0, service, service, data, self.priority(server, service), when, when, "", 0, server)
+
+    def replied(self, server):
+        """A service was told what became of its call, or its server ended: its request is out no more."""
+        self.asked.pop(server, None)
+        self.forwarded = [each for each in self.forwarded if each.server != server]
 
     def told(self, server, when):
         """The request that the server had is answered; answers it, if there was one."""
