@@ -1,15 +1,17 @@
 -- A service makes a call, and its server's worker goes on behind it.
-use Rattle.std.proofs.Common.{◌≡◌, ◌<◌, ◌≤◌, ◌⊎◌, ℕ, zero, suc, ◌+◌, ◌-◌, ◌%◌, ◌^◌, ◌==◌, ◌&&◌, ◌||◌, Bool, true, false, cond, List, [], ◌∷◌, ◌++◌, map, length, Option, Some, None, inl, inr, refl, sym, ◌∙◌, ap, subst, append-nil, append_assoc, add-one, arith, eq-eqb, eqb-true, if◌then◌else◌}
+use Rattle.std.proofs.Common.{◌≡◌, ◌<◌, ◌≤◌, ◌⊎◌, ℕ, zero, suc, ◌+◌, ◌-◌, ◌%◌, ◌^◌, ◌==◌, ◌||◌, Bool, true, false, cond, List, [], ◌∷◌, ◌++◌, map, length, Option, Some, None, inl, inr, refl, sym, ◌∙◌, ap, subst, append-nil, append_assoc, add-one, arith, eq-eqb, eqb-true, if◌then◌else◌}
 use Rattle.std.specs.Prelude.{⊤, Result, Ok, Err, IfOk, IfErr, reverse, nat_lt, IfSome, IsSomeAnd, slice_get, slice_index_or}
 use Rattle.std.specs.List.{All, filter, list_any, flat_map}
-use Rattle.std.proofs.lemmas.Bool.{cases_Bool, false≢true, and_from, and_parts, lt-ltb}
+use Rattle.std.proofs.lemmas.Bool.{cases_Bool, false≢true, and_from, and_parts, lt-ltb, ltb-true, ltb-false}
 use Rattle.std.proofs.lemmas.List.{length-append}
+use Rattle.std.proofs.Math.Seq.{get_or-append_seam}
 use Rattle.std.proofs.lemmas.List.Elements.{All-nil, All-cons, All-head, All-tail, All-append, All-filter, All-weaker, filter-append}
 use Rattle.xa_desk.specs.xa_types.declared.call.Op.{Op}
 use Rattle.xa_desk.specs.xa_types.declared.call.Op.TheVariants.{Call, Priority}
 use Rattle.xa_desk.specs.xa_types.declared.ids.Generation.{Generation}
 use Rattle.xa_desk.specs.xa_types.declared.ids.RequestId.{RequestId}
 use Rattle.xa_desk.specs.xa_types.declared.ids.ServerId.{ServerId}
+use Rattle.xa_desk.specs.xa_types.declared.fault.Fault.{Fault}
 use Rattle.xa_desk.specs.xa_types.declared.reply.Reply.{Reply}
 use Rattle.xa_desk.specs.xa_types.declared.reply.Reply.TheVariants as replies
 use Rattle.xa_desk.specs.xa_types.declared.stamp.Stamp.{Stamp}
@@ -23,7 +25,7 @@ use Rattle.xa_desk.specs.xa_events.declared.event.Taken.{Taken}
 use Rattle.xa_desk.specs.xa_events.Words.{AtEach, count}
 use Rattle.xa_desk.specs.xa_events.State.{caller_of}
 use Rattle.xa_desk.specs.xa_events.Homes.{of_worker, is_take_by}
-use Rattle.xa_desk.specs.xa_events.Homes.Home.{QueueHome}
+use Rattle.xa_desk.specs.xa_events.Homes.Home.{QueueHome, CallerHome}
 use Rattle.xa_desk.specs.xa_events.Local.{worker_events}
 use Rattle.xa_desk.specs.xa_events.Caller.{is_call_of, op_in, last_op}
 use Rattle.xa_desk.specs.xa_events.Said.{is_op, reply_at}
@@ -58,10 +60,13 @@ use Rattle.xa_desk.specs.xa_server.Served.{StarterShows}
 use Rattle.xa_desk.specs.xa_server.declared.slot.ServerSlot.{ServerSlot}
 use Rattle.xa_desk.specs.xa_pipe.declared.turn.Turn.{Turn}
 use Rattle.xa_desk.specs.xa_pipe.declared.turn.Turn.TheVariants.{Serving, Finishing, Performing}
-use Rattle.xa_desk.specs.xa_pipe.Frames.{is_busy_in, invocation, op_frame, reply_frame, may_call}
+use Rattle.xa_desk.specs.xa_pipe.declared.hearing.Act.{Act}
+use Rattle.xa_desk.specs.xa_pipe.declared.hearing.Act.TheVariants.{Calls, Ends}
+use Rattle.xa_desk.specs.xa_pipe.declared.hearing.Finish.{Finish}
+use Rattle.xa_desk.specs.xa_pipe.Frames.{is_busy_in, invocation, act_frame, op_frame, reply_frame, may_call}
 use Rattle.xa_desk.specs.xa_pipe.Life.{LinkShows, calls_in, finishes_in, stops_life, is_acting}
 use Rattle.xa_desk.specs.xa_pipe.Standing.{LifeState, IsSound as IsLifeSound, Ending, tag_of, invokes_of, calls_of, cut_short}
-use Rattle.xa_desk.specs.xa_pipe.Changes.{Heard, Invoked, Unsent, Starves, spent, with_asked, turn_after}
+use Rattle.xa_desk.specs.xa_pipe.Changes.{Heard, Fell, Invoked, Unsent, Starves, spent, with_asked, turn_after}
 use Rattle.xa_desk.specs.xa_pipe.Following.{is_of, AreCall, Follows, Settled}
 use Rattle.xa_desk.proofs.xa_pipe.Dues.{call_of_none, call_keeps}
 use Rattle.xa_desk.proofs.xa_pipe.Followed.{no_invoke, follows_op, follows_spent, follows_replied, settles_starved, settles_unsaid}
@@ -80,17 +85,17 @@ use Rattle.xa_calls.specs.declared.telling.Told.TheVariants as tells
 use Rattle.xa_calls.specs.Going.{IsReady, IsStopped, IsCall, PerformsBy}
 use Rattle.xa_calls.specs.Telling.{IsQuiet, NotesOne, Accepts, StoppedIn, Says, IsTold}
 use Rattle.xa_server_worker.specs.declared.working.ServerWorker.{ServerWorker}
-use Rattle.xa_server_worker.specs.Attending.{IsNewest, IsReplyTo, called_out}
+use Rattle.xa_server_worker.specs.Attending.{is_want, IsNewest, IsReplyTo, called_out}
 use Rattle.xa_server_worker.specs.Behind.{IsCalm, ends_by}
 use Rattle.xa_server_worker.specs.Lives.{generation_in, lives_in, fails_start, failed_starts, calls_of_all, IsHanded, HandsOn, IsCut}
 use Rattle.xa_server_worker.specs.Reasons.{ShowsReason}
 use Rattle.xa_server_worker.specs.Steps.{Steps, Serves}
-use Rattle.xa_server_worker.specs.Standing.{SettlesBy, HasCalled, IsAtWork, IsIn, IsBusyWith, IsServed, IsCalling, MayDie, HasEnded}
+use Rattle.xa_server_worker.specs.Standing.{SettlesBy, HasCalled, IsAtWork, IsIn, IsBusyWith, IsServed, IsCalling, HasFinished, MayDie, HasEnded, Goes}
 use Rattle.xa_server_worker.proofs.Behind.{calm_called, told_last}
 use Rattle.xa_server_worker.proofs.Keeping.{OfLife, Adds, call_adds, call_no_start, call_no_failure, each_call, handed_led, handed_more, going_on, none_counted, skip_count, skip_map, stops_none}
 use Rattle.xa_server_worker.proofs.Lasting.{at_desk, number_of, starts_count, started_on, work_adds, work_on, lives_hand, in_hands, in_alive, halts, hands_beside}
 use Rattle.xa_server_worker.proofs.Deaths.{death_in}
-use Rattle.xa_server_worker.proofs.Exchanges.{Becomes, link_becomes, at_still, last_still, handed_still, acting_turn, own_of}
+use Rattle.xa_server_worker.proofs.Exchanges.{Becomes, link_becomes, at_still, last_still, handed_still, acting_turn, falls_busy, own_of}
 use Rattle.xa_server_worker.proofs.Stepping.{still_steps}
 
 -- ---- what a call of the life answers
@@ -102,6 +107,44 @@ ok_weaker P Q more (Err e) is = tt
 pub err_weaker : {A E : Type 0} (P Q : E → Type 0) → ((e : E) → P e → Q e) → (r : Result A E) → IfErr r P → IfErr r Q
 err_weaker P Q more (Ok a) is = tt
 err_weaker P Q more (Err e) is = more e is
+
+-- the answer that stands last at the worker's own home is the newest that it noted
+pub newest_answer : (desk : Desk) (a b : Replied) (entries : List Stamped) (newest : Stamped) → IsNewest a desk → entries ≡ filter (stands_at desk.caller.work.setup desk.caller.work.clients (CallerHome desk.caller.work.id.0)) desk.caller.work.own
+    → newest ≡ slice_index_or entries (length entries - 1) newest → newest.event ≡ Answer b → b ≡ a
+newest_answer desk a b entries newest is kept last answer =
+    let v = desk.caller.work in
+    let here : Stamped → Bool = stands_at v.setup v.clients (CallerHome v.id.0) in
+    let x : Stamped = record { stamp = is.stamp; event = Answer a } in
+    let before : List Stamped = filter here is.older in
+    let mine : here x ≡ true = eq-eqb a.by.0 v.id.0 is.by in
+    let ends : entries ≡ before ++ x ∷ [] = kept ∙ (ap (filter here) is.own ∙ (filter-append here is.older (x ∷ []) ∙ ap (λ (l : List Stamped). before ++ l) (filter-yes here x [] mine))) in
+    let at_last : slice_index_or entries (length entries - 1) newest ≡ x =
+    ap (λ (l : List Stamped). slice_index_or l (length l - 1) newest) ends
+    ∙ (ap (λ (n : ℕ). slice_index_or (before ++ x ∷ []) (n - 1) newest) (length-append before (x ∷ [])) ∙ (ap (λ (n : ℕ). slice_index_or (before ++ x ∷ []) n newest) (less_one (length before)) ∙ get_or-append_seam before x [] newest)) in
+    let same : Answer a ≡ Answer b = sym (ap (λ (y : Stamped). y.event) (last ∙ at_last)) ∙ answer in
+    cc same
+  where
+    less_one : (n : ℕ) → (n + 1) - 1 ≡ n
+    less_one n = omega arith
+
+-- a reply is what the call says
+pub reply_done : (P : Reply → Type 0) (told : Told) (reply : Reply) (desk : Desk) → told ≡ tells.Done → IsReplyTo told reply desk → P replies.Done → P reply
+reply_done P told reply desk is by holds = subst P (sym (subst (λ (t : Told). IsReplyTo t reply desk) is by)) holds
+
+pub reply_fault : (P : Reply → Type 0) (told : Told) (fault : Fault) (reply : Reply) (desk : Desk) → told ≡ tells.Fault fault → IsReplyTo told reply desk → P (replies.Fault fault) → P reply
+reply_fault P told fault reply desk is by holds = subst P (sym (subst (λ (t : Told). IsReplyTo t reply desk) is by)) holds
+
+pub reply_answered : (P : Reply → Type 0) (told : Told) (b : Replied) (reply : Reply) (desk : Desk) (entries : List Stamped) (newest : Stamped) → told ≡ tells.Answered → entries ≡ filter (stands_at desk.caller.work.setup desk.caller.work.clients (CallerHome desk.caller.work.id.0)) desk.caller.work.own
+    → newest ≡ slice_index_or entries (length entries - 1) newest → newest.event ≡ Answer b → IsReplyTo told reply desk → P (replies.Answered 0 b.answer) → P reply
+reply_answered P told b reply desk entries newest is kept last answer by holds =
+    let (a, new, same) = subst (λ (t : Told). IsReplyTo t reply desk) is by in
+    subst P (ap (λ (r : Replied). replies.Answered 0 r.answer) (newest_answer desk a b entries newest new kept last answer) ∙ sym same) holds
+
+-- that memory ran out is why
+pub want_is : (stopped : Stopped) → is_want stopped ≡ true → stopped ≡ Here NoMemory
+want_is (Here NoMemory) is = refl
+want_is (Here (Worn stamp)) is = absurd (cc is)
+want_is Elsewhere is = absurd (cc is)
 
 -- ---- the calls of a server
 
@@ -363,6 +406,37 @@ module _ {L T : Type 0} {d : Domain} {shows : T → StarterShows} (w : ServerWor
         more = low;
       }
 
+  -- what its service says is heard behind its last call
+  module _ (t : Taken) (life : LifeState) (last : ℕ) (is : last ≡ w.desk.caller.op) (sound : IsSound w.desk.caller) (served : IsServed d shows Serving t life w) where
+    abbrev old : LifeState
+    old = called_out last life
+
+    pub out : (turn : Turn) × IsServed d shows turn t old w
+    out = served_out t life last (is ∙ sym sound.reads.called) served
+
+    -- it asks for a call
+    pub calls_by : (new : LifeState) (act : Act) (op : Op) → act ≡ Calls op → last < 2 ^ 32 → Heard (act_frame (tag_of old) act) new old → IsCalling d shows op t new w
+    calls_by new act op says bound heard =
+        let said : Heard (op_frame (tag_of old) op) new old = subst (λ (a : Act). Heard (act_frame (tag_of old) a) new old) says heard in
+        let busy = out.1.busy.is in
+        let may = op_may old new (tag_of old) op said (acting_turn old.turn (ap is_acting busy.turns ∙ out.1.acts)) in
+        asks_in new old out.0 t op said (low (last == 2 ^ 32 - 1) refl may.0) out.1
+      where
+        low : (b : Bool) → (last == 2 ^ 32 - 1) ≡ b → old.turn ≡ Serving → w.desk.caller.op < 2 ^ 32 - 1
+        low true most serving = let finishing : old.turn ≡ Finishing = ap (λ (b : Bool). (if b then spent life else life).turn) most in cc (finishing, serving)
+        low false less serving = elim (cases_Bool (nat_lt last (2 ^ 32 - 1))) [
+          | inl lower ↦ subst (λ (n : ℕ). n < 2 ^ 32 - 1) is (ltb-true last (2 ^ 32 - 1) lower)
+          | inr upper ↦ let least = ltb-false last (2 ^ 32 - 1) upper in absurd (false≢true (sym less ∙ eq-eqb last (2 ^ 32 - 1) (omega (arith, bound, least))))
+        ]
+
+    -- or is done
+    pub ends_by_act : (new : LifeState) (act : Act) (back : Finish) → act ≡ Ends back → Heard (act_frame (tag_of old) act) new old → HasFinished d shows t back new w
+    ends_by_act new act back says heard = record { turn = out.0; old = old; served = out.1; heard = subst (λ (a : Act). Heard (act_frame (tag_of old) a) new old) says heard }
+
+    -- or says nothing more
+    pub says_none : (over : Ending) → Fell over old → MayDie d shows over w
+    says_none over fell = falls_busy w old over out.0 t fell out.1
+
   -- ---- a call is made
 
   module _ (op : Op) (t : Taken) (life : LifeState) (calling : IsCalling d shows op t life w) (sound : IsSound w.desk.caller) where
@@ -410,6 +484,9 @@ module _ {L T : Type 0} {d : Domain} {shows : T → StarterShows} (w : ServerWor
 
       old_last : w.desk.caller.op ≡ last_op caller (own_of w)
       old_last = sym sound.reads.called
+
+      pub goes_called : Goes d w after
+      goes_called = record { leads = goes.leads; id = goes.same.id; clients = goes.same.clients; server = refl; name = refl; queue = refl }
 
       -- ---- it was made
 
@@ -653,6 +730,9 @@ module _ {L T : Type 0} {d : Domain} {shows : T → StarterShows} (w : ServerWor
 
         steps_partly : Steps d events w.desk desk'
         steps_partly = record { leads = goes.leads; id = goes.same.id; clients = goes.same.clients; own = noted_theirs w.desk desk' partly.added goes.same.id goes.same.clients partly.own (so_each (λ e. of_worker w.desk.caller.work.clients caller e ≡ true) (λ e op_is. call_of_worker w.desk.caller.work.clients caller e (and_parts (is_call_of caller e) (op_in e == number) op_is).0)) }
+
+        pub wanted : is_want stopped ≡ true → IsQuiet w.desk desk' × (desk'.caller.phase ≡ Idle)
+        wanted want = subst (λ (why : Stopped). StoppedIn number why w.desk desk') (want_is stopped want) within
 
         pub halted_in : (other : ServerWorker L T) → other ≡ record after { cut = Some (cut_short life) } → IsLifeSound life → HasEnded d shows (Some stopped) other
         halted_in other rest alive =

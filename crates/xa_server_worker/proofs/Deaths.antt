@@ -44,7 +44,7 @@ use Rattle.xa_desk.specs.xa_server.declared.served.Served.{Served}
 use Rattle.xa_desk.specs.xa_server.Served.{StarterShows}
 use Rattle.xa_desk.specs.xa_server.Doings.{life_in, is_death, outcome_of}
 use Rattle.xa_desk.specs.xa_server.Noting.{IsWorn}
-use Rattle.xa_desk.specs.xa_server.Changes.{Stops, DiesBusy, DiesFrom, DiesWorn}
+use Rattle.xa_desk.specs.xa_server.Changes.{Stops, DiesBusy, DiesIdle, DiesFrom, DiesWorn}
 use Rattle.xa_desk.specs.declared.domain.Domain.{Domain}
 use Rattle.xa_desk.specs.declared.desk.Desk.{Desk}
 use Rattle.xa_desk.specs.declared.stopped.Stopped.{Stopped}
@@ -56,7 +56,7 @@ use Rattle.xa_desk.specs.Halting.{IsStopAt}
 use Rattle.xa_server_worker.specs.Lives.{lives_in, IsHanded, TookEach, HandsOn, IsCut}
 use Rattle.xa_server_worker.specs.Working.{cut_in}
 use Rattle.xa_server_worker.specs.Steps.{Steps, Serves}
-use Rattle.xa_server_worker.specs.Standing.{SettlesBy, IsLast, IsAtWork, IsOff, HasEnded}
+use Rattle.xa_server_worker.specs.Standing.{Goes, SettlesBy, IsLast, IsAtWork, IsOff, HasEnded}
 use Rattle.xa_server_worker.specs.Behind.{is_by_exit, TellsLast, ToldBefore}
 use Rattle.xa_server_worker.proofs.Behind.{still_behind, more_behind, told_last}
 use Rattle.xa_server_worker.proofs.Stepping.{stop_by, still_steps, noted_steps}
@@ -199,6 +199,30 @@ module _ {L T : Type 0} {d : Domain} {shows : T → StarterShows} (w : ServerWor
     dies_told closing (Idle g) dies = stop_told cause dies.stop (no_exit cause death) dies.stops
     dies_told closing Off dies = stop_told cause dies.stop (no_exit cause death) dies.stops
     dies_told closing (Dying g) dies = stop_told cause dies.stop (no_exit cause death) dies.stops
+
+    -- what the worker is stays
+    goes_idle : (closing : Closing) → DiesIdle cause closing slot' slot new old → Goes d w (at_kept w kept slot' desk')
+    goes_idle closing dies = record {
+      leads = leads;
+      id = ap (λ (v : WorkState). v.id) dies.stops.noted.made;
+      clients = ap (λ (v : WorkState). v.clients) dies.stops.noted.made;
+      server = ap (λ (s : ServerSlot). s.server) dies.stops.left;
+      name = refl;
+      queue = refl;
+    }
+
+    pub dies_goes : (closing : Closing) (doing : Doing) → DiesFrom doing cause closing slot' slot new old → Goes d w (at_kept w kept slot' desk')
+    dies_goes closing (Busy g request) dies = record {
+      leads = leads;
+      id = ap (λ (v : WorkState). v.id) dies.stops.noted.made ∙ ap (λ (v : WorkState). v.id) dies.ends.noted.made;
+      clients = ap (λ (v : WorkState). v.clients) dies.stops.noted.made ∙ ap (λ (v : WorkState). v.clients) dies.ends.noted.made;
+      server = ap (λ (s : ServerSlot). s.server) dies.stops.left ∙ ap (λ (s : ServerSlot). s.server) dies.ends.left;
+      name = refl;
+      queue = refl;
+    }
+    dies_goes closing (Idle g) dies = goes_idle closing dies
+    dies_goes closing Off dies = goes_idle closing dies
+    dies_goes closing (Dying g) dies = goes_idle closing dies
 
     dies_busy : (closing : Closing) (g : Generation) (request : RequestId) → slot.doing ≡ Busy g request → SettlesBy d w.desk over own (Busy g request) → DiesFrom (Busy g request) cause closing slot' slot new old → IsOff d shows (at_kept w kept slot' desk')
     dies_busy closing g request does (its, settles) dies =

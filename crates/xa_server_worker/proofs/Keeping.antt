@@ -1,5 +1,5 @@
 -- The lives of a server as its worker goes on.
-use Rattle.std.proofs.Common.{◌≡◌, ◌≢◌, ◌<◌, ◌≤◌, ℕ, zero, suc, ◌+◌, ◌==◌, ◌&&◌, Bool, true, false, cond, List, [], ◌∷◌, ◌++◌, map, Option, None, refl, sym, ◌∙◌, ap, subst, append-nil, arith, append_assoc}
+use Rattle.std.proofs.Common.{◌≡◌, ◌≢◌, ◌≤◌, ℕ, zero, suc, ◌+◌, ◌==◌, ◌&&◌, Bool, true, false, cond, List, [], ◌∷◌, ◌++◌, map, Option, None, refl, sym, ◌∙◌, ap, subst, append-nil, arith, append_assoc}
 use Rattle.std.specs.Prelude.{reverse, take, drop}
 use Rattle.std.specs.List.{All, cons_option, filter_map}
 use Rattle.std.proofs.lemmas.Bool.{ne_eqb, false≢true}
@@ -45,7 +45,6 @@ use Rattle.xa_desk.specs.Serving.{IsSentFor}
 use Rattle.xa_server_worker.specs.Lives.{generation_in, lives_in, fails_start, failed_starts, IsHanded, EndsShut, IsLived}
 use Rattle.xa_server_worker.specs.Steps.{Steps}
 use Rattle.xa_server_worker.specs.Standing.{HasLived, HasCalled, IsGoing}
-use Rattle.xa_desk.specs.xa_pipe.Life.{Reasons}
 use Rattle.xa_desk.proofs.xa_pipe.Followed.{follows_led, stopped_led}
 use Rattle.xa_server_worker.specs.Reasons.{ShowsReason}
 use Rattle.xa_server_worker.proofs.Reasons.{reason_led}

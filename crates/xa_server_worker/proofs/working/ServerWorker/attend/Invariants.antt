@@ -1,7 +1,7 @@
 use Rattle.xa_desk.specs.xa_events.declared.event.Taken.{Taken}
 use Rattle.xa_desk.specs.xa_pipe.declared.turn.Turn.TheVariants.{Serving}
 use Rattle.xa_server_worker.specs.Standing.{Goes, IsServed}
-use Rattle.xa_server_worker.proofs.working.ServerWorker.attend.Goals as goal
+use Rattle.xa_server_worker.proofs.working.ServerWorker.attend.Given as goal
 
 -- the life goes on, and its service is to go on with its request
 abbrev pub invariant-loop : goal.invariant-loop

@@ -1,6 +1,7 @@
 use Rattle.std.proofs.Common.{[], ◌∷◌, refl, ◌∙◌, ap, subst}
 use Rattle.std.proofs.lemmas.List.Elements.{All-nil}
 use Rattle.xa_server_worker.specs.Passing.{Passes, Keeps}
+use Rattle.xa_desk.specs.xa_pipe.declared.hearing.Finish.TheVariants.{Forwards}
 use Rattle.xa_desk.specs.xa_pipe.Life.{is_acting}
 use Rattle.xa_server_worker.proofs.Behind.{still_calm}
 use Rattle.xa_server_worker.proofs.Keeping.{OfLife}
@@ -38,5 +39,5 @@ returns-in-Err-clause-halted g c =
     let keeps = subst (λ n. Keeps c.args.monitor.now.domain.now n c.in-Err.halt w.served.slot slot' w.desk desk') is.at.serving.its c.in-Err.ensures in
     let at = work_on w slot' desk' [] b.old keeps.serves (All-nil (OfLife w.served.slot.made)) (still_calm w.desk desk' keeps.own keeps.seat) is.at in
     let server = keeps.serves.server in
-    let becomes = finish_becomes _ b.heard (ap is_acting is.turns ∙ b.served.acts) in
+    let becomes = finish_becomes (Forwards c.args.forwards) b.heard (ap is_acting is.turns ∙ b.served.acts) in
     cut_ends (at_desk w slot' desk') c.cut.new.self c.args.life _ (at_still b.old.asked becomes at) c.cut.ensures.rest (heard_hands w c.args.life b.old _ slot' desk' b.heard is keeps.serves.steps server) (heard_cut w c.args.life b.old _ slot' desk' b.heard is keeps.serves.steps server c.cut.ensures.sound) keeps.halts

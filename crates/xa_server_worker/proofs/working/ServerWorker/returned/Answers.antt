@@ -2,6 +2,7 @@ use Rattle.std.proofs.Common.{[], ◌∷◌, refl, sym, ◌∙◌, ap}
 use Rattle.std.proofs.lemmas.List.Elements.{All-nil}
 use Rattle.xa_desk.specs.xa_events.declared.event.Event.TheVariants.{End}
 use Rattle.xa_desk.specs.xa_server.declared.slot.ServerSlot.{ServerSlot}
+use Rattle.xa_desk.specs.xa_pipe.declared.hearing.Finish.TheVariants.{Returns}
 use Rattle.xa_desk.specs.xa_pipe.Life.{is_acting}
 use Rattle.xa_server_worker.proofs.Behind.{still_calm}
 use Rattle.xa_server_worker.proofs.Stepping.{halted_own, halted_steps, halted_at, still_serves}
@@ -23,7 +24,7 @@ returns-in-Err-clause-halted g c =
     let still = halted_steps 3 c.in-Err.halt leads c.in-Err.ensures.halted in
     let at = work_on w slot' desk' [] b.old (still_serves still serving kept) (All-nil (OfLife w.served.slot.made)) (still_calm w.desk desk' (halted_own w.desk desk' 3 c.in-Err.halt c.in-Err.ensures.halted) c.finish-finished.ensures.rest.1) is.at in
     let server = ap (λ (s : ServerSlot). s.server) kept in
-    let becomes = finish_becomes _ b.heard (ap is_acting is.turns ∙ b.served.acts) in
+    let becomes = finish_becomes (Returns c.args.back) b.heard (ap is_acting is.turns ∙ b.served.acts) in
     cut_ends (at_desk w slot' desk') c.cut.new.self c.args.life _ (at_still b.old.asked becomes at) c.cut.ensures.rest (heard_hands w c.args.life b.old _ slot' desk' b.heard is still server) (heard_cut w c.args.life b.old _ slot' desk' b.heard is still server c.cut.ensures.sound) (halted_at w.desk desk' 3 c.in-Err.halt c.in-Err.ensures.halted)
 
 pub exit-requires-clause-life : goal.exit-requires-clause-life
