@@ -30,10 +30,12 @@ const LATER: &[u8] = b"XA\x01\x05\0\0\0\x04\0\0\0\x02\x02TO\0";
 
 const UNTAGGED: &[u8] = b"XA\x01\x05\0\0\0\x04\0\0\0\0\x02TO\0";
 
-// An OP of the first invocation, tpunadvertise of A, and one of the second.
-const OP: &[u8] = b"XA\x01\x03\0\0\0\x03\0\0\0\x01\x0c\x01A";
+// An OP of the first invocation, tpsprio by 5, and one of the second; and one of a call that isn't served.
+const OP: &[u8] = b"XA\x01\x03\0\0\0\x06\0\0\0\x01\x0a\0\0\0\0\x05";
 
-const LATER_OP: &[u8] = b"XA\x01\x03\0\0\0\x03\0\0\0\x02\x0c\x01A";
+const LATER_OP: &[u8] = b"XA\x01\x03\0\0\0\x06\0\0\0\x02\x0a\0\0\0\0\x05";
+
+const UNSERVED: &[u8] = b"XA\x01\x03\0\0\0\x03\0\0\0\x01\x0c\x01A";
 
 // What is left of the pipes of a life that ended.
 #[derive(Clone, Copy, PartialEq, Eq)]
@@ -47,7 +49,7 @@ enum Left {
 // what is left of its pipes.
 type Course = (&'static [&'static [u8]], [u64; 2], StopCause, Left);
 
-static COURSES: [Course; 33] = [
+static COURSES: [Course; 34] = [
     (
         &[READY, NEXT, RETURN, NEXT],
         [0, 0],
@@ -232,6 +234,13 @@ static COURSES: [Course; 33] = [
         &[READY, NEXT, LATER_OP],
         [0, 0],
         StopCause::OutOfTurn(0x03, 2),
+        Left::Killed,
+    ),
+    // of a call that isn't served
+    (
+        &[READY, NEXT, UNSERVED],
+        [0, 0],
+        StopCause::OutOfTurn(0x03, 1),
         Left::Killed,
     ),
 ];

@@ -19,8 +19,8 @@ const SHORT: &[u8] = b"XA\x01\x04\0\0\0\x0f\0\0\0\x01\0\0\0\0\x07\x01\0\0\0\x05"
 // A FORWARD of the first invocation to the service TO with hello.
 const FORWARD: &[u8] = b"XA\x01\x05\0\0\0\x0d\0\0\0\x01\x02TO\x01\0\0\0\x05hello";
 
-// A tick of 1 that the first invocation asks for.
-const OP: &[u8] = b"XA\x01\x03\0\0\0\x05\0\0\0\x01\x0d\0\0\0\x01";
+// tpsprio by 5, which the first invocation asks for.
+const OP: &[u8] = b"XA\x01\x03\0\0\0\x06\0\0\0\x01\x0a\0\0\0\0\x05";
 
 // How a service goes on with its request: by a call, with that code, or by a forward to that service with these octets.
 #[derive(Clone, Copy)]
@@ -33,7 +33,7 @@ enum Done {
 // What the program says, the read of five octets that fails, or 0, and how its service is done or why the life ends.
 type Said = (&'static [&'static [u8]], u64, Result<Done, StopCause>);
 
-static SAID: [Said; 24] = [
+static SAID: [Said; 25] = [
     (&[READY, NEXT, RETURN, NEXT], 0, Ok(Done::Returned(7))),
     (
         &[READY, NEXT, FORWARD, NEXT],
@@ -99,6 +99,11 @@ static SAID: [Said; 24] = [
     ),
     (
         &[READY, NEXT, RETURN, OP],
+        0,
+        Err(StopCause::OutOfTurn(0x03, 1)),
+    ),
+    (
+        &[READY, NEXT, b"XA\x01\x03\0\0\0\x05\0\0\0\x01\x0d\0\0\0\x01"],
         0,
         Err(StopCause::OutOfTurn(0x03, 1)),
     ),
