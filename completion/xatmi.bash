@@ -38,7 +38,7 @@ _xatmi() {
     esac
     case ${COMP_WORDS[1]}:$place in
         run:0) _xatmi_files '*.toml' ;;
-        play:0) COMPREPLY=($(compgen -W 'ECHO LEN FAIL EXIT DIE TRANSFER ACCT PASS RELAY QUIT' -- "$word")) ;;
+        play:0) COMPREPLY=($(compgen -W 'ECHO LEN FAIL EXIT DIE TRANSFER ACCT PASS RELAY QUIT ADV' -- "$word")) ;;
         check:0) _xatmi_files '*.toml' ;;
         check:1) _xatmi_files '*.script' ;;
         watch:0) _xatmi_files '*.toml' ;;

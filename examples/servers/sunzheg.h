@@ -32,13 +32,21 @@
  * takes its place, and *odata is where that is. An answer without data leaves it, and *olen is 0. It answers -1 for an error, of
  * which tperrno is the number and tpstrerror the name; want of memory is TPEOS. tpurcode is the code of the last answer, also of
  * TPESVCFAIL. Flags are TPNOBLOCK, TPNOTIME, TPSIGRSTRT, TPNOTRAN, and TPNOCHANGE: then data of another type than *odata has is
- * TPEOTYPE. tpsprio sets the priority of the service's next call or forward, with TPABSOLUTE, and else adds to it. Outside a service
- * both are TPEPROTO. A service whose call is put on its own queue waits for good where no other server is there.
+ * TPEOTYPE. tpsprio sets the priority of the service's next call or forward, with TPABSOLUTE, and else adds to it. A service whose
+ * call is put on its own queue waits for good where no other server is there.
+ *
+ * A service may change which services callers find on the queue of its server. tpadvertise puts one there, with the function that
+ * serves it; one that TPSERVICES doesn't name is TPEINVAL. It is TPEMATCH where the service is there with another routine, and
+ * TPELIMIT where all queues have 256 services together. tpunadvertise takes it off, and is TPENOENT where it isn't there. A name
+ * that is none is TPEINVAL. Each server of the queue may get a request of the service: one whose TPSERVICES doesn't name the
+ * function returns TPFAIL with code 99.
+ *
+ * Outside a service all these are TPEPROTO.
  *
  * Standard output belongs to the monitor: what a service prints there goes to standard error, and standard input is empty.
  * Octets that are no frame, and a frame that may not come then, are told by their place, and the server ends with status 10.
  *
- * Not here: tpacall and tpgetrply, conversations, tpadvertise and X_COMMON.
+ * Not here: tpacall and tpgetrply, conversations and X_COMMON.
  */
 
 #ifndef SUNZHEG_H
@@ -98,6 +106,8 @@ void tpreturn(int rval, long rcode, char *data, long len, long flags);
 void tpforward(char *svc, char *data, long len, long flags);
 int tpcall(const char *svc, char *idata, long ilen, char **odata, long *olen, long flags);
 int tpsprio(int prio, long flags);
+int tpadvertise(const char *svcname, void (*func)(TPSVCINFO *));
+int tpunadvertise(const char *svcname);
 const char *tpstrerror(int err);
 char *tpalloc(char *type, char *subtype, long size);
 char *tprealloc(char *ptr, long size);
@@ -179,7 +189,8 @@ static const struct {
 
 enum { SUNZHEG_READY = 0x01, SUNZHEG_NEXT = 0x02, SUNZHEG_OP = 0x03, SUNZHEG_RETURN = 0x04, SUNZHEG_FORWARD = 0x05 };
 enum { SUNZHEG_INVOKE = 0x11, SUNZHEG_REPLY = 0x12, SUNZHEG_SHUTDOWN = 0x13 };
-enum { SUNZHEG_TPCALL = 1, SUNZHEG_TPSPRIO = 10, SUNZHEG_DONE = 0, SUNZHEG_ANSWER = 3, SUNZHEG_ERROR = 6 };
+enum { SUNZHEG_TPCALL = 1, SUNZHEG_TPSPRIO = 10, SUNZHEG_TPADVERTISE = 11, SUNZHEG_TPUNADVERTISE = 12 };
+enum { SUNZHEG_DONE = 0, SUNZHEG_ANSWER = 3, SUNZHEG_ERROR = 6 };
 enum { SUNZHEG_NONE = 0, SUNZHEG_OCTET = 1, SUNZHEG_TYPED = 2 };
 enum { SUNZHEG_HEADER = 12, SUNZHEG_MAX_BODY = 66000, SUNZHEG_MAX_DATA = 65536, SUNZHEG_MAX_NAME = 31 };
 enum { SUNZHEG_MAX_WORD = 255, SUNZHEG_MAX_MODE = 3, SUNZHEG_NO_ROUTINE = 99, SUNZHEG_BAD_FRAME = 10 };
@@ -838,6 +849,44 @@ int tpsprio(int prio, long flags)
     sunzheg_put(flags == TPABSOLUTE, 1);
     sunzheg_put((uint64_t)(int64_t)prio, 4);
     return sunzheg_ask(place, SUNZHEG_DONE, NULL, NULL);
+}
+
+/* The name of the routine that is that function, or NULL. */
+static const char *sunzheg_name_of(void (*func)(TPSVCINFO *))
+{
+    for (size_t i = 0; i < sizeof sunzheg_services / sizeof sunzheg_services[0]; i++)
+        if (sunzheg_services[i].service == func)
+            return sunzheg_services[i].name;
+    return NULL;
+}
+
+/* Makes a change of the board: the OP of that number with these words, of which the second may be wanting. */
+static int sunzheg_change(size_t op, const char *svcname, const char *routine)
+{
+    if (svcname == NULL || strlen(svcname) > SUNZHEG_MAX_WORD)
+        return sunzheg_refuse(TPEINVAL);
+    sunzheg.count = 0;
+    size_t place = sunzheg_begin(SUNZHEG_OP, sunzheg.tag);
+    sunzheg_put(op, 1);
+    sunzheg_put_word(svcname, strlen(svcname));
+    if (routine != NULL)
+        sunzheg_put_word(routine, strlen(routine));
+    return sunzheg_ask(place, SUNZHEG_DONE, NULL, NULL);
+}
+
+int tpadvertise(const char *svcname, void (*func)(TPSVCINFO *))
+{
+    if (sunzheg.service == NULL)
+        return sunzheg_refuse(TPEPROTO);
+    const char *routine = sunzheg_name_of(func);
+    return routine == NULL ? sunzheg_refuse(TPEINVAL) : sunzheg_change(SUNZHEG_TPADVERTISE, svcname, routine);
+}
+
+int tpunadvertise(const char *svcname)
+{
+    if (sunzheg.service == NULL)
+        return sunzheg_refuse(TPEPROTO);
+    return sunzheg_change(SUNZHEG_TPUNADVERTISE, svcname, NULL);
 }
 
 /* ---- the server */

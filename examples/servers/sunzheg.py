@@ -35,7 +35,19 @@ tpcall(service, data, flags) waits for the answer and returns its data; tpurcode
 TPError, with the error's `name` and number `tperrno` in XATMI, and for TPESVCFAIL the `tpurcode` and the `data` of the answer. Want of
 memory is TPEOS. Its flags are TPNOBLOCK, TPNOTIME, TPSIGRSTRT, TPNOTRAN, and TPNOCHANGE: then data of another kind than was sent
 is TPEOTYPE. tpsprio(priority, flags) sets the priority of the routine's next call or forward, with TPABSOLUTE, and else adds to it.
-Outside a routine both are TPEPROTO. A routine whose call is put on its own queue waits for good where no other server is there.
+A routine whose call is put on its own queue waits for good where no other server is there.
+
+A routine may change which services callers find on the queue of its server:
+
+    tpadvertise("STOCK.EU", "STOCK")
+    tpunadvertise("STOCK.US")
+
+tpadvertise(service, routine) puts the service there, with the name of the routine that serves it. It is TPEMATCH where the service
+is there with another routine, and TPELIMIT where all queues have 256 services together. tpunadvertise(service) takes it off, and is
+TPENOENT where it isn't there. A name that is none is TPEINVAL. The monitor doesn't know which routines there are: each server of
+the queue may get a request of the service, and one without that routine returns TPFAIL with code NO_ROUTINE.
+
+Outside a routine all these are TPEPROTO.
 
 Standard input and output belong to the monitor: from the import of this file on, print() and what else is written to standard
 output go to standard error, and standard input is empty. Without the words `server NAME`, serve() says how the server is started.
@@ -51,7 +63,7 @@ from typing import NamedTuple
 __all__ = [
     "TPABSOLUTE", "TPCONV", "TPEXIT", "TPError", "TPFAIL", "TPNOBLOCK", "TPNOCHANGE", "TPNOREPLY", "TPNOTIME", "TPNOTRAN",
     "TPRECVONLY", "TPSENDONLY", "TPSIGRSTRT", "TPSUCCESS", "TPSVCINFO",
-    "Typed", "routine", "serve", "shape", "tpcall", "tpforward", "tpreturn", "tpsprio", "tpurcode",
+    "Typed", "routine", "serve", "shape", "tpadvertise", "tpcall", "tpforward", "tpreturn", "tpsprio", "tpunadvertise", "tpurcode",
 ]
 
 TPFAIL, TPSUCCESS, TPEXIT = 0x1, 0x2, 0x0800_0000
@@ -61,7 +73,7 @@ NO_ROUTINE, BAD_FRAME = 99, 10
 
 _READY, _NEXT, _OP, _RETURN, _FORWARD, _INVOKE, _REPLY, _SHUTDOWN = 0x01, 0x02, 0x03, 0x04, 0x05, 0x11, 0x12, 0x13
 # The numbers of an OP and of a REPLY, and of each flag in an OP.
-_TPCALL, _TPSPRIO = 1, 10
+_TPCALL, _TPSPRIO, _TPADVERTISE, _TPUNADVERTISE = 1, 10, 11, 12
 _DONE, _ANSWER, _ERROR = 0, 3, 6
 _CALL_FLAGS = {TPNOBLOCK: 1, TPNOTIME: 2, TPNOREPLY: 4, TPNOTRAN: 8, TPSIGRSTRT: 16}
 # The errors in the order of their numbers in a frame; the last one is want of memory.
@@ -162,6 +174,16 @@ def tpsprio(priority, flags=0):
     if flags & ~TPABSOLUTE or not -(2**31) <= priority < 2**31:
         raise TPError("TPEINVAL")
     _told(struct.pack(">BBi", _TPSPRIO, flags == TPABSOLUTE, priority), _DONE)
+
+
+def tpadvertise(service, routine):
+    """Puts the service on the queue of this server, with the name of the routine that serves it."""
+    _told(bytes([_TPADVERTISE]) + _word(service, "a service") + _word(routine, "a routine"), _DONE)
+
+
+def tpunadvertise(service):
+    """Takes the service off the queue of this server."""
+    _told(bytes([_TPUNADVERTISE]) + _word(service, "a service"), _DONE)
 
 
 def tpurcode():

@@ -127,6 +127,7 @@ MISTAKES = [
     ('text "9999"', 'text "9999" # note', "a comment is a line of its own", "cause 4"),
     ('text "9999"', "text \u201c9999\u201d", "the octet 0xe2 may not stand in a script", "straight quotes", "cause 1"),
     ('text "9999"', 'text "9999" noreply', "noreply is for acall, so the call is told TPEINVAL"),
+    ('call REJECT text "9999"', "advertise REJECT FAIL", "a client has no server, for which 'advertise' is, so the call is told TPEPROTO"),
     ("client branch", "client .branch", "'.branch' is no name: it begins with a dot", "cause 5"),
     ("call REJECT", "call RE\x1b[31mJECT", "the octet 0x1b may not stand in a script", "call RE.[31mJECT", "cause 1"),
     ("# A bank.", "#\x1b[31m" + "b" * 5_000, "the octet 0x1b may not stand in a comment", "#.[31mbbb", "(config 1)"),

@@ -54,13 +54,26 @@ void ASK(TPSVCINFO *request)
     memcpy(all->e, tpstrerror(tperrno) + 2, 4);
     tpreturn(TPSUCCESS, count == sizeof *all, (char *)all, 0, 0);
 }
+void CHANGE(TPSVCINFO *request)
+{
+    struct all *all = (struct all *)tpalloc(X_C_TYPE, "all", sizeof *all);
+    (void)request;
+    all->a = (short)(1 + tpadvertise("NEW", MAKE) + tpadvertise("NEW", MAKE));
+    all->b = tpadvertise("NEW", ADD) * tperrno;
+    all->c = tpadvertise(".", MAKE) * tperrno + 256 * tpadvertise("NEW", NULL) * tperrno;
+    all->d = (unsigned char)(1 + tpunadvertise("NEW"));
+    tpunadvertise("NEW");
+    memcpy(all->e, tpstrerror(tperrno) + 2, 4);
+    tpreturn(TPSUCCESS, 0, (char *)all, 0, 0);
+}
 """
 IN_PYTHON = """#!/usr/bin/env python3
 import sys
 sys.path.insert(0, %r)
 from sunzheg import *
-try: tpcall("ECHO")
-except TPError as error: print(error.name)
+for call, *words in (tpcall, "ECHO"), (tpadvertise, "NEW", "ECHO"), (tpunadvertise, "ECHO"):
+    try: call(*words)
+    except TPError as error: print(error.name)
 shape("all", "a short", "b int", "c long", "d char", "e string 4")
 @routine("ADD")
 def add(request):
@@ -91,6 +104,17 @@ def ask(request):
     try: tpcall("NOBODY")
     except TPError as error: found["e"] = error.name[2:6]
     return tpreturn(TPSUCCESS, 1, found)
+def told(call, *words):
+    try: call(*words)
+    except TPError as error: return error
+@routine("CHANGE")
+def change(request):
+    found = Typed("all", a=[told(tpadvertise, "NEW", "MAKE") for _ in "12"] == [None, None])
+    found["b"] = -told(tpadvertise, "NEW", "ADD").tperrno
+    found["c"] = -sum(weight * told(tpadvertise, *words).tperrno for weight, *words in ((1, ".", "MAKE"), (256, "NEW", "")))
+    found["d"] = told(tpunadvertise, "NEW") is None
+    found["e"] = told(tpunadvertise, "NEW").name[2:6]
+    return found
 serve()
 """
 # The services that it calls, of the monitor's own program.
@@ -113,7 +137,7 @@ accepts = ["c:item"]
 PRICED = """a 1 OK 0 c:item 70656e00000000000000000000000000000000030000000000000168
 a 2 TPESVCFAIL 0 c:item 70656e00000000000000000000000000ffffffffffffffffffffff88
 """
-SERVED = "ADD MAKE ON WRONG WIDE NOTHING NONE ASK EXIT".split()
+SERVED = "ADD MAKE ON WRONG WIDE NOTHING NONE ASK CHANGE EXIT".split()
 TOLD = """a 1 TPESVCFAIL -3 c:all fffe000000080000000000000004c87778797a
 a 2 OK 7 c:all 000000000000fffffffffffffffe0000000000
 a 3 TPESVCFAIL -3 c:all fffe000000080000000000000004c87778797a
@@ -122,7 +146,8 @@ a 5 TPESVCERR
 a 6 TPESVCERR
 a 7 TPESVCFAIL 99 none
 a 8 OK 1 c:all 001100000013ffffffffffffffb307454e4f45
-a 9 TPESVCFAIL 5 none
+a 9 OK 0 c:all 0001ffffffe9fffffffffffffbfc01454e4f45
+a 10 TPESVCFAIL 5 none
 """
 
 
@@ -153,7 +178,7 @@ def served(report, program, room):
             status, told, said = run([program, "run", f"{room}/config"], script)
             report.case(f"the libraries: a server {how}", (status, told, said.count("printed by ADD"), said.count("TPESVCERR")), (0, TOLD, 2, 3))
             if how == "in Python":
-                report.case("sunzheg.py: a call outside a routine", said.count("TPEPROTO"), 1)
+                report.case("sunzheg.py: calls outside a routine", said.count("TPEPROTO"), 3)
         done = run([compiler, *flags, "-DTPSERVICES=PRICE", "-o", f"{room}/price", folder / "price.c"])
         report.case(f"price.c: {compiler} says nothing", done, (0, "", ""))
     for server in ("examples/servers/smallest.py", "examples/servers/echo.py"):

@@ -67,6 +67,24 @@ def echo(request):
 serve()
 """
 
+# A server whose service changes the board, and leaves it as it was, or ends where it is told something else than it should be.
+CHANGES = """#!/usr/bin/env python3
+import os, sys
+sys.path.insert(0, %r)
+from sunzheg import *
+def told(call, *words):
+    try: call(*words)
+    except TPError as error: return error.name
+@routine("ECHO")
+def echo(request):
+    found = [told(*each) for each in (
+        (tpadvertise, "NEW", "ECHO"), (tpadvertise, "NEW", "ECHO"), (tpadvertise, "NEW", "X"), (tpadvertise, os.environ["KNOWN"], "ECHO"),
+        (tpunadvertise, "NEW"), (tpunadvertise, "NEW"), (tpadvertise, ".", "X"), (tpunadvertise, "N W"))]
+    if found != [None, None, "TPEMATCH", None, None, "TPENOENT", "TPEINVAL", "TPEINVAL"]: os._exit(3)
+    return request.data
+serve()
+"""
+
 PAIR = '[[shape]]\nname = "pair"\nfields = ["a int", "b string 4"]\n'
 
 
@@ -91,6 +109,10 @@ def trials(report, program, room):
     for calls, called, error in (("NOMEM", "X", 7), ("TPESVCFAIL", "X", 11), ("echo", "X", 0), ("echo", ".X", 4)):
         found = run([TOOLS / "trial", "--calls", calls, server], env=os.environ | {"CALLED": called, "ERROR": str(error)})
         report.case(f"trial: its calls of {called} are told {calls}", (found[0], "wrong" in found[1]), (0, False))
+    server, config = written(f"{room}/server", CHANGES % str(ECHO.parent), 0o755), written(f"{room}/config", GOOD % f"{room}/server")
+    for known, words in (("TRIAL", [server]), ("ECHO", ["--config", config])):
+        found = run([TOOLS / "trial", *words], env=os.environ | {"KNOWN": known})
+        report.case(f"trial: changes of the board, where {known} is there", (found[0], "wrong" in found[1]), (0, False))
     config, smallest = written(f"{room}/config", PAIR + GOOD % ECHO), (TOP / SMALLEST).read_text()
     for slip, (old, new, *wanted) in SLIPS.items():
         server = written(f"{room}/server", smallest.replace(old, new, 1), 0o755)

@@ -146,6 +146,18 @@ CALLED = [
     "OP 3: tpcall, service 'RELAY', X_OCTET, 2 octets 'hi'",
 ]
 
+# A service puts another on its queue and one off it, and that calls itself there.
+CHANGES = """client a
+call NEW none
+call ADV text "+ NEW RELAY"
+call ADV text "- ECHO"
+call NEW text "NEW hi"
+"""
+CHANGED = [
+    "OP 1: tpadvertise, service 'NEW', routine 'RELAY'", "REPLY 1: done",
+    "OP 2: tpunadvertise, service 'ECHO'", "REPLY 2: an error, TPENOENT", "OP 3: tpcall, service 'NEW', X_OCTET, 2 octets 'hi'",
+]
+
 
 def calls_watched(report, program, room):
     """The calls that services make."""
@@ -157,6 +169,10 @@ def calls_watched(report, program, room):
     report.case("watch: a service's call waits", found, [("P", [("T", "RELAY")])])
     rows = {line["service"]: (line["calls"], line["failed"]) for line in lines if line["is"] == "service"}
     report.case("watch: calls of services are counted", rows, {"ECHO": (1, 0), "NONE": (1, 1), "RELAY": (2, 1)})
+    lines = waiting_at_last(written(f"{room}/config", GOOD % program + PASSED.replace("PASS", "ADV")), CHANGES)
+    report.case("watch: changes of the board", [line["what"] for line in lines if line.get("frame") in ("OP", "REPLY")], CHANGED)
+    found = [(line["queue"], [(each["server"], each["service"]) for each in line["requests"]]) for line in lines if line["is"] == "waits"][:1]
+    report.case("watch: a call of what was advertised waits", found, [("P", [("T", "NEW")])])
 
 
 def stops_watched(report, program, room):

@@ -32,8 +32,8 @@ OPERATIONS = {
     12: ("tpunadvertise", "service"),
     13: ("a tick of the clock", "ticks"),
 }
-# Those that the monitor makes; another one is out of turn.
-MADE = ["tpcall", "tpsprio"]
+# Those that the monitor makes or refuses; another one is out of turn.
+MADE = ["tpcall", "tpsprio", "tpadvertise", "tpunadvertise", "a tick of the clock"]
 # What a REPLY tells, by its number.
 REPLIES = {
     0: ("done", ""),

@@ -130,6 +130,8 @@ class Proxy:
             more["outcome"] = found.get("error", found.get("outcome", found.get("does")))
         if kind == frames.OP:
             more |= {"does": found["does"]} | {each: found[each] for each in ("absolute", "number") if each in found}
+            if "routine" in found:
+                more["routine"] = found["routine"].decode("latin-1")
         if "data" in found:
             more["data"] = mark(found["subtype"] and found["subtype"].decode(), found["data"])
         self.note("frame", way=way, **more)

@@ -1,4 +1,4 @@
-"""The lines of a script at fault, and what calls are sure to be told. docs/guide.md ("Script") says what a line may be."""
+"""The lines of a script at fault, and what calls are to be told. docs/guide.md ("Script") says what a line may be."""
 
 import re
 from typing import NamedTuple
@@ -15,7 +15,8 @@ UNPRINTED_OCTET = re.compile(rb"[^\x20-\x7e]")
 NUMBER = re.compile(rb"0|-?[1-9][0-9]*")
 QUOTED = re.compile(rb'"((?:[^"\\]|\\["\\])*)"(?= |$)')
 CALLS = ["call", "acall", "get", "getany", "cancel", "connect", "send", "recv", "discon", "prio", "advertise", "unadvertise", "tick"]
-SERVED = ["call", "prio"]
+CHANGES = ["advertise", "unadvertise"]
+SERVED = ["call", "prio", *CHANGES]
 FLAGS = ["noblock", "notime", "noreply", "notran", "sigrstrt"]
 DATA = ["none", "text", "octet", "fill", "c"]
 DIRECTIONS = ["send", "recv", "both", "neither"]
@@ -23,13 +24,15 @@ SIZES = {"short": 2, "int": 4, "long": 8}
 
 
 class Fault(NamedTuple):
-    """A line at fault, or a call that is sure to be refused, of which the cause is none."""
+    """A line at fault, or a call that is to be refused, of which the cause is none. It isn't sure of a service that a server
+    may advertise."""
 
     line: int
     column: int
     cause: int
     wrong: str
     guess: str = ""
+    sure: bool = True
 
 
 class Data(NamedTuple):
@@ -237,7 +240,8 @@ def descriptor(line):
 
 
 def call_of(verb, line):
-    """Reads the rest of a call's line; what a tpcall says, and where its service stands; of prio how the priority is set."""
+    """Reads the rest of a call's line; what a tpcall says, and where its service stands; of prio how the priority is set; of a
+    change of the board where its line begins."""
     if verb in ("call", "acall", "connect"):
         service, start = line.service()
         data = line.data()
@@ -256,10 +260,13 @@ def call_of(verb, line):
         number = line.number("the priority", -1000, 1000)
         line.end()
         return how, number
-    if verb in ("advertise", "unadvertise"):
+    if verb in CHANGES:
+        begin = line.at - len(verb)
         line.service()
-    if verb == "advertise":
-        line.service("the routine")
+        if verb == "advertise":
+            line.service("the routine")
+        line.end()
+        return begin
     if verb == "tick":
         line.number("the number of ticks", 1, 2_147_483_647)
     if verb in ("get", "getany", "send", "recv"):
@@ -275,7 +282,7 @@ def client_of(line):
 
 
 def service_fault(document, number, column, service, data, flags=()):
-    """What such a call is sure to be told, if anything."""
+    """What such a call is to be told, if anything."""
     names = names_of(entries_of(document, "service"))
     if not NAME.fullmatch(service):
         return Fault(number, column, 0, f"'{service.decode()}' is no name: {spoils(service)}; so the call is told TPEINVAL")
@@ -285,7 +292,8 @@ def service_fault(document, number, column, service, data, flags=()):
         return Fault(number, column, 0, "noreply is for acall, so the call is told TPEINVAL")
     word = service.decode()
     if word not in names:
-        return Fault(number, column, 0, f"no service is named '{word}', so the call is told TPENOENT", like(word, names))
+        wrong = f"no service is named '{word}', so the call is told TPENOENT, unless a server advertises it"
+        return Fault(number, column, 0, wrong, like(word, names), False)
     entry = entries_of(document, "service")[names.index(word)]
     conversational, accepts = entry.get("conversational"), entry.get("accepts")
     if conversational and conversational.data:
@@ -362,7 +370,7 @@ def lines_read(octets, document=None, most=MOST_CLIENTS):
 
 
 def faults_of(octets, document=None, most=MOST_CLIENTS):
-    """The least fault of each line in order, and calls that are sure to be refused."""
+    """The least fault of each line in order, and calls that are to be refused."""
     begun, good = False, True
     for number, verb, faults, said in lines_read(octets, document, most):
         yield from faults
@@ -371,6 +379,8 @@ def faults_of(octets, document=None, most=MOST_CLIENTS):
             service, start, data, flags = said
             if fault := service_fault(document, number, start + 1, service, data, flags):
                 yield fault
+        elif verb in CHANGES and not faults:
+            yield Fault(number, said + 1, 0, f"a client has no server, for which '{verb}' is, so the call is told TPEPROTO")
     if good and not begun:
         yield Fault(1, 1, 0, "the script has no client, so it makes no call: a line 'client NAME' stands before the calls")
 
@@ -388,9 +398,9 @@ def calls_of(octets, document):
             fault = service_fault(document, number, start + 1, service, data, flags)
             usual = priorities.get(service.decode(), DEFAULT_PRIORITY)
             priority = usual if prio is None else min(100, max(1, prio[1] + (usual if prio[0] == "add" else 0)))
-            refused = fault.wrong if fault else ""
+            refused = fault.wrong if fault and fault.sure else ""
             calls.append(Call(len(calls) + 1, number, verb, service, data, priority, flags, refused))
-            prio = prio if refused else None
+            prio = prio if fault else None
         else:
             prio = said if verb == "prio" else prio
             calls.append(Call(len(calls) + 1, number, verb))

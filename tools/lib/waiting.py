@@ -2,7 +2,8 @@
 
 A client has one request out at most, and makes its next call when the one before was answered. So between two frames it is
 known what each client waits for, but not when its request came to a queue, nor which of several queues it went to, nor a call
-that is refused without a frame, as for a full queue. Of requests with the same data it is not known which one a server got.
+that is refused without a frame, as for a full queue. The board is followed by the changes that servers were told are done, so
+a call that came at the moment of one may be taken for refused. Of requests with the same data it is not known which one a server got.
 """
 
 from typing import NamedTuple
@@ -28,19 +29,54 @@ class Request(NamedTuple):
     others: int
     # The server whose service made the call, if no client did.
     server: str = ""
+    # The queues of its service as it was sent, at one of which it waits.
+    queues: tuple = ()
+
+
+# How many rows the board has at most.
+MOST_ROWS = 256
 
 
 class Services:
-    """What the configuration says of the services."""
+    """What the configuration says of the services, and the rows that stand: each service and queue with its routine."""
 
     def __init__(self, document):
         self.all = dict(zip(names_of(entries_of(document, "service")), entries_of(document, "service")))
-        self.servers = {}
+        self.servers, self.queue_of, self.rows = {}, {}, {}
         for entry in entries_of(document, "server"):
-            self.servers.setdefault(entry.get("queue").data, []).append(entry.get("name").data)
+            name, queue = entry.get("name").data, entry.get("queue").data
+            self.servers.setdefault(queue, []).append(name)
+            self.queue_of[name] = queue
+        for name, entry in self.all.items():
+            routine = entry.get("routine")
+            self.rows |= {(name, queue): routine.data if routine else name for queue in texts_of(entry.get("queues").data)}
 
     def queues(self, service):
-        return texts_of(self.all[service].get("queues").data) if service in self.all else []
+        return tuple(queue for name, queue in self.rows if name == service)
+
+    def change(self, does, server, service, routine=""):
+        """A server advertises a service at its queue, where it goes to the end of the rows, or takes it off."""
+        row = service, self.queue_of.get(server)
+        self.rows.pop(row, None)
+        if does == "tpadvertise":
+            self.rows[row] = routine
+
+    def refusal(self, does, server, service=b"", routine=b"R"):
+        """Why the monitor refuses the change to that server, or the empty text; a tick is refused always."""
+        if does not in ("tpadvertise", "tpunadvertise"):
+            return "TPEPROTO"
+        if not NAME.fullmatch(service) or not NAME.fullmatch(routine):
+            return "TPEINVAL"
+        found = self.rows.get((service.decode(), self.queue_of.get(server)))
+        if does == "tpunadvertise":
+            return "" if found else "TPENOENT"
+        if found:
+            return "" if found == routine.decode() else "TPEMATCH"
+        return "" if len(self.rows) < MOST_ROWS else "TPELIMIT"
+
+    def withdraw(self, queue):
+        """The queue has no server left."""
+        self.rows = {row: routine for row, routine in self.rows.items() if row[1] != queue}
 
     def priority(self, service):
         found = self.all[service].get("priority") if service in self.all else None
@@ -48,9 +84,11 @@ class Services:
 
     def takes(self, service, subtype, data):
         """Whether a forward of such data to that word may be taken."""
-        if not NAME.fullmatch(service) or service.decode() not in self.all:
+        if not NAME.fullmatch(service) or not self.queues(service.decode()):
             return False
-        entry = self.all[service.decode()]
+        entry = self.all.get(service.decode())
+        if entry is None:
+            return True
         accepts, conversational = entry.get("accepts"), entry.get("conversational")
         kind = f"c:{subtype}" if subtype else "octet"
         return not (conversational and conversational.data) and (not data or not accepts or kind in texts_of(accepts.data))
@@ -68,8 +106,10 @@ class Waiting:
         # Of each server the call of its service that no other server has taken, and what it set for the priority of the next request.
         self.asked, self.set = {}, {}
         self.silent = {server for servers in self.services.servers.values() for server in servers}
-        # The servers that are given up, and the services that have no other.
-        self.gone, self.down = set(), set()
+        # The servers that are given up.
+        self.gone = set()
+        # Of each client the queues of the call that it waits for, as it made that, and the calls that were passed over before it.
+        self.put, self.passed = {}, {client: [] for client in calls}
 
     def greeted(self, server, when):
         """That server has greeted or is given up: behind the last one the clients begin."""
@@ -77,13 +117,25 @@ class Waiting:
             self.silent.discard(server)
             if not self.silent:
                 self.since = dict.fromkeys(self.calls, when)
+                for client in self.calls:
+                    self.call_of(client)
+
+    def is_up(self, queues):
+        """Whether a server of these queues is left."""
+        return any(server not in self.gone for queue in queues for server in self.services.servers[queue])
 
     def call_of(self, client):
-        """The call that the client waits for, behind those whose services have no server left; none where it has no more."""
+        """The call that the client waits for, behind those whose services have no row or no server left; none where it has no
+        more."""
         calls = self.calls[client]
-        while self.at[client] < len(calls) and calls[self.at[client]].service in self.down:
+        while self.at[client] < len(calls):
+            call = calls[self.at[client]]
+            if self.is_up(self.put.setdefault(client, self.services.queues(call.service))):
+                return call
+            self.passed[client].append(self.at[client])
             self.at[client] += 1
-        return calls[self.at[client]] if self.at[client] < len(calls) else None
+            del self.put[client]
+        return None
 
     def busy(self):
         """The clients whose requests a server has, or passed on."""
@@ -97,15 +149,16 @@ class Waiting:
         for client, since in self.since.items():
             call = self.call_of(client) if since is not None and client not in busy else None
             if call:
-                yield Request(client, call.number, call.service, call.service, call.data, call.priority, since, since, "", 0)
+                queues = self.put[client]
+                yield Request(client, call.number, call.service, call.service, call.data, call.priority, since, since, "", 0, "", queues)
 
     def later(self, service, data):
-        """The calls behind those that clients wait for that have this service and data, with how many calls are before them."""
+        """The calls that have this service and data beside those that clients wait for, with how many calls they are away."""
         busy = {each.client for each in self.in_hand.values()}
         for client, calls in self.calls.items():
-            for place in range(self.at[client] + 1, len(calls)) if client not in busy else []:
+            for place in [*self.passed[client], *range(self.at[client] + 1, len(calls))] if client not in busy else []:
                 if (calls[place].service, calls[place].data) == (service, data):
-                    yield place - self.at[client], client, calls[place], place
+                    yield abs(place - self.at[client]), client, calls[place], place
                     break
 
     def invoked(self, server, service, data, when):
@@ -123,6 +176,7 @@ class Waiting:
         elif later := sorted(self.later(service, data), key=lambda each: each[0]):
             _, client, call, place = later[0]
             self.at[client] = place
+            self.put.pop(client, None)
             request = Request(client, call.number, service, service, data, call.priority, when, when, "", len(later) - 1)
         else:
             request = Request("", 0, service, service, data, 0, when, when, "", 0)
@@ -142,7 +196,8 @@ class Waiting:
         word = service.decode()
         priority = self.priority(server, word)
         self.set.pop(server, None)
-        self.forwarded.append(request._replace(service=word, data=data, priority=priority, since=when, by=server))
+        queues = self.services.queues(word)
+        self.forwarded.append(request._replace(service=word, data=data, priority=priority, since=when, by=server, queues=queues))
         return True
 
     def sets(self, server, absolute, number):
@@ -157,7 +212,8 @@ class Waiting:
 
     def asks(self, server, service, data, when):
         """A service calls another."""
-        self.asked[server] = Request("", 0, service, service, data, self.priority(server, service), when, when, "", 0, server)
+        priority, queues = self.priority(server, service), self.services.queues(service)
+        self.asked[server] = Request("", 0, service, service, data, priority, when, when, "", 0, server, queues)
 
     def replied(self, server):
         """A service was told what became of its call, or its server ended: its request is out no more."""
@@ -174,15 +230,17 @@ class Waiting:
     def answer(self, request, when):
         if request.client:
             self.at[request.client] = self.places[request.client][request.call] + 1
-            self.since[request.client] = when
+            self.since[request.client], self.passed[request.client] = when, []
+            self.put.pop(request.client, None)
+            self.call_of(request.client)
 
     def given_up(self, server, when):
         self.gone.add(server)
+        queue = self.services.queue_of[server]
+        if not self.is_up([queue]):
+            self.services.withdraw(queue)
         self.greeted(server, when)
-        for service in self.services.all:
-            if all(server in self.gone for queue in self.services.queues(service) for server in self.services.servers[queue]):
-                self.down.add(service)
-        for each in [each for each in self.forwarded if each.service in self.down]:
+        for each in [each for each in self.forwarded if not self.is_up(each.queues)]:
             self.forwarded.remove(each)
             self.answer(each, when)
 
@@ -190,7 +248,7 @@ class Waiting:
         """The queues at which requests wait, each with these in the order in which they are taken."""
         found = {}
         for request in self.out():
-            for queue in self.services.queues(request.service):
-                if any(server not in self.gone for server in self.services.servers[queue]):
+            for queue in request.queues:
+                if self.is_up([queue]):
                     found.setdefault(queue, []).append(request)
         return {queue: sorted(each, key=lambda one: (-one.priority, one.since)) for queue, each in sorted(found.items())}

@@ -1,15 +1,13 @@
 // The domain advertises the configured services on a board that nobody else has seen.
-ghost use Rattle.std.specs.Prelude.{◌≡◌, ◌+◌, ◌<◌, [], ◌∷◌, length, position, true, IfOk, OnOk};
+ghost use Rattle.std.specs.Prelude.{◌≡◌, ◌+◌, ◌<◌, [], ◌∷◌, length, true, IfOk, OnOk};
 ghost use Rattle.std.specs.List.{All};
-ghost use Rattle.std.specs.Str.{bytes_eq};
 ghost use Rattle.xa_client_worker.specs.xa_types.Configured.{is_configured, is_among, queue_names};
 ghost use Rattle.xa_client_worker.specs.xa_types.Rows.{Put, changes_of, configured};
-ghost use Rattle.xa_client_worker.specs.xa_types.Setup.{queue_named};
 ghost use Rattle.xa_boot.specs.Opening.{Remain, Begin, Passed};
 
 use xa_client_worker::board::Board;
 use xa_client_worker::held::KeptBoard;
-use xa_client_worker::route::{is_same, row_for};
+use xa_client_worker::route::{queue_named, row_for};
 use xa_client_worker::types::{CallerId, Name, NoMemory, QueueId, ServiceSetup, Setup, Stamp};
 use xa_client_worker::work::Own;
 
@@ -18,25 +16,6 @@ use xa_client_worker::work::Own;
 pub struct Opening {
     pub board: KeptBoard,
     pub own: Own,
-}
-
-// The place of the queue of that name, from 0.
-fn place_of_queue(setup: &Setup, name: &Name) -> Option<usize>
-    ensures { result ≡ position (λ queue. bytes_eq queue.name name.now) setup.now.queues }
-{
-    let mut queues = setup.queues.slice().iter();
-    queues.position(|queue| is_same(&queue.name, name))
-}
-
-/// The queue of that name.
-pub(crate) fn queue_named(setup: &Setup, name: &Name) -> QueueId
-    requires { is_configured setup.now ≡ true }
-    ensures { result.0 ≡ queue_named setup.now name.now }
-{
-    match place_of_queue(setup, name) {
-        Some(place) => QueueId(place as u16 + 1),
-        None => QueueId(0),
-    }
 }
 
 impl Opening {

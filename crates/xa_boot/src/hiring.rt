@@ -9,7 +9,6 @@ ghost use Rattle.xa_boot.specs.Booting.{IsNewServer, IsNewCloser};
 ghost use Rattle.xa_boot.specs.Supplies.{restarts_of};
 ghost use Rattle.xa_boot.specs.Hiring.{AreLeft, HasClients, HasServers};
 
-use crate::advertising::queue_named;
 use crate::closer::Closer;
 use crate::staff::{Post, Staff, last_of};
 use std::alloc::Global;
@@ -17,6 +16,7 @@ use xa_client_worker::ClientWorker;
 use xa_client_worker::desk::Domain;
 use xa_client_worker::link::{Link, Starter};
 use xa_client_worker::restart::Lives;
+use xa_client_worker::route::queue_named;
 use xa_client_worker::server::{Served, ServerSlot};
 use xa_client_worker::types::ServerId;
 use xa_server_worker::ServerWorker;

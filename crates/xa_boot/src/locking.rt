@@ -6,7 +6,6 @@ ghost use Rattle.xa_client_worker.specs.xa_held.Joins.{HasServers};
 ghost use Rattle.xa_client_worker.specs.xa_caller.declared.cargo.Filling.{Filling};
 ghost use Rattle.xa_boot.specs.Locking.{IsPlain, IsFresh, IsLocked, AreLocked, AreFresh};
 
-use crate::advertising::queue_named;
 use crate::rooms::QueuePass;
 use std::alloc::Global;
 use xa_client_worker::caller::{Cargo, Filling};
@@ -14,6 +13,7 @@ use xa_client_worker::cell::Cells;
 use xa_client_worker::held::KeptQueue;
 use xa_client_worker::lock::Guarded;
 use xa_client_worker::queue::Queue;
+use xa_client_worker::route::queue_named;
 use xa_client_worker::types::{NoMemory, QueueId, ServerId, Setup, Stamp};
 
 /// Queues under their locks, and all passes of each.

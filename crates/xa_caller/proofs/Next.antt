@@ -2,9 +2,9 @@
 use Rattle.std.proofs.Common.{false, ◌≡◌, ℕ, ◌+◌, ◌<◌, ◌≤◌, if◌then◌else◌, ◌||◌, not, Bool, ℤ, true, List, [], ◌∷◌, length, Option, Some, None, inl, inr, refl, sym, ◌∙◌, ap, subst, arith}
 use Rattle.std.specs.List.{All, find}
 use Rattle.std.proofs.lemmas.List.Elements.{All-head, All-tail, All-weaker}
-use Rattle.std.specs.Prelude.{slice_get}
+use Rattle.std.specs.Prelude.{slice_get, ◌-◌, nat_lt, IsSome}
 use Rattle.xa_types.specs.declared.data.Kind.{Kind}
-use Rattle.std.proofs.lemmas.Bool.{cases_Bool}
+use Rattle.std.proofs.lemmas.Bool.{cases_Bool, and_parts, ltb-true}
 use Rattle.xa_types.specs.declared.call.Mode.{Mode}
 use Rattle.xa_types.specs.declared.call.Mode.TheVariants.{Reply}
 use Rattle.xa_types.specs.declared.ids.CallerId.{CallerId}
@@ -16,13 +16,19 @@ use Rattle.xa_types.specs.Kind.{is_sound, is_accepted}
 use Rattle.xa_types.specs.Priority.{priority_of}
 use Rattle.xa_types.specs.Rows.{row_for, row_with}
 use Rattle.xa_types.specs.Setup.{service_named}
-use Rattle.xa_events.specs.declared.event.Event.TheVariants.{Accept, Answer, Refuse, Leave, Priority}
+use Rattle.xa_events.specs.declared.event.Event.TheVariants.{Advertise, Withdraw, Accept, Answer, Refuse, Leave, Priority}
 use Rattle.xa_events.specs.declared.event.Accepted.{Accepted}
 use Rattle.xa_events.specs.declared.event.Replied.{Replied}
 use Rattle.xa_events.specs.declared.event.Prioritized.{Prioritized}
 use Rattle.xa_events.specs.declared.event.Refused.{Refused as RefusedCall}
-use Rattle.xa_events.specs.Caller.{is_client, is_active, descriptor_limit, accepted, last_op, just_accepted, least_version, open_descriptors, next_priority}
-use Rattle.xa_events.specs.Cases.{IsNextCall, HasRoom, asked_priority, priority_by, ShowsItself, IsOwnEvidence}
+use Rattle.xa_events.specs.declared.event.Event.{Event}
+use Rattle.xa_events.specs.declared.event.Doing.{Doing}
+use Rattle.xa_events.specs.declared.event.Doing.TheVariants.{Busy}
+use Rattle.xa_events.specs.Server.{doing, is_busy, held_in}
+use Rattle.xa_events.specs.Homes.{at_home}
+use Rattle.xa_events.specs.Homes.Home.{CallerHome}
+use Rattle.xa_events.specs.Caller.{is_client, is_serving, is_active, descriptor_limit, accepted, last_op, just_accepted, least_version, open_descriptors, next_priority}
+use Rattle.xa_events.specs.Cases.{IsNextCall, ByServer, queue_by, HasRoom, asked_priority, priority_by, ShowsItself, IsOwnEvidence}
 use Rattle.xa_events.specs.Words.{has}
 use Rattle.xa_events.specs.Calls.{is_invalid_ask, is_invalid_call}
 use Rattle.xa_types.specs.Name.{is_name}
@@ -33,6 +39,7 @@ use Rattle.xa_caller.specs.declared.phase.Open.{Open}
 use Rattle.xa_caller.specs.declared.phase.Phase.TheVariants.{Idle, Sent}
 use Rattle.xa_caller.specs.Phases.{just_in, open_in}
 use Rattle.xa_caller.specs.Caller.{CallerState, IsSound, MayCall}
+use Rattle.xa_caller.specs.Changes.{IsChangeBy}
 
 -- a caller that may make a call is active
 pub is_active_now : (c : CallerState) → IsSound c → MayCall c → is_active c.work.clients c.work.id.0 (theirs c.work) ≡ true
@@ -177,3 +184,30 @@ first_found setup service kind (one ∷ rest) row all is =
 -- a row is of its service
 pub row-service : (setup : Setup) (service : List ℕ) (row : Row) → row ≡ row_for setup service row.queue.0 row.routine → row.service ≡ service
 row-service setup service row is = (same_priority setup service (service_named setup service) row is).0
+
+held_busy : (d : Doing) → is_busy d ≡ true → IsSome (held_in d)
+held_busy (Busy generation request) is = refl
+held_busy _ is = absurd (cc is)
+
+-- its server, which is busy, changes a row of its queue
+by_server : (c : CallerState) → IsSound c → is_serving c.work.clients c.work.id.0 (theirs c.work) ≡ true → (by : CallerId) (op queue : ℕ) → op ≡ c.op + 1 → by ≡ c.work.id → queue_by c.work.setup c.work.clients c.work.id.0 ≡ queue → ByServer c.work.setup c.work.clients by op queue (theirs c.work)
+by_server c sound serves by op queue next same its =
+    let w : WorkState = c.work in
+    let parts = and_parts (nat_lt w.clients w.id.0) (is_busy (doing (w.id.0 - w.clients) (theirs w))) serves in
+    subst (λ (id : CallerId). ByServer w.setup w.clients id op queue (theirs w)) (sym same) (record {
+      server = ltb-true w.clients w.id.0 parts.0;
+      call = next_call c sound (inr serves) op next;
+      busy = subst (λ (b : Bool). IsSome (if b then held_in (doing (w.id.0 - w.clients) (theirs w)) else None)) (sym parts.0) (held_busy (doing (w.id.0 - w.clients) (theirs w)) parts.1);
+      its = its;
+    })
+
+pub changes_next : (c : CallerState) → IsSound c → is_serving c.work.clients c.work.id.0 (theirs c.work) ≡ true → (op version : ℕ) (e : Event) → op ≡ c.op + 1 → IsChangeBy c op version e → IsNext c.work e
+changes_next c sound serves op version (Advertise a) next is = record { its = ap (λ (id : CallerId). id.0) is.0; met = inr (by_server c sound serves a.by a.op a.queue.0 (is.1 ∙ next) is.0 is.2) }
+changes_next c sound serves op version (Withdraw w) next is = record { its = ap (λ (id : CallerId). id.0) is.0; met = inr (by_server c sound serves w.by w.op w.queue.0 (is.1 ∙ next) is.0 is.2) }
+changes_next c sound serves op version _ next is = absurd is
+
+-- it stands on the board, and not at its worker's own home
+pub change_aside : (c : CallerState) (op version : ℕ) (e : Event) → IsChangeBy c op version e → at_home c.work.setup c.work.clients (CallerHome c.work.id.0) e ≡ false
+change_aside c op version (Advertise a) is = refl
+change_aside c op version (Withdraw w) is = refl
+change_aside c op version _ is = absurd is

@@ -5,8 +5,10 @@ use Rattle.std.proofs.lemmas.Bool.{and_from, lt-ltb}
 use Rattle.xa_types.specs.declared.setup.Setup.{Setup}
 use Rattle.xa_types.specs.declared.call.Mode.TheVariants.{Reply}
 use Rattle.xa_events.specs.declared.event.Event.{Event}
-use Rattle.xa_events.specs.declared.event.Event.TheVariants.{Accept, Answer, Refuse, Priority, Start, StartFailed, End, Stop, Take, Gone, Forward}
+use Rattle.xa_events.specs.declared.event.Event.TheVariants.{Advertise, Withdraw, Accept, Answer, Refuse, Priority, Start, StartFailed, End, Stop, Take, Gone, Forward}
 use Rattle.xa_events.specs.State.{caller_of}
+use Rattle.xa_events.specs.declared.event.Advertised.{Advertised}
+use Rattle.xa_events.specs.declared.event.Withdrawn.{Withdrawn}
 use Rattle.xa_events.specs.declared.event.Accepted.{Accepted}
 use Rattle.xa_events.specs.declared.event.Replied.{Replied}
 use Rattle.xa_events.specs.declared.event.Prioritized.{Prioritized}
@@ -40,7 +42,8 @@ use Rattle.xa_caller.specs.declared.phase.Draft.{Draft}
 use Rattle.xa_caller.specs.declared.phase.Phase.TheVariants.{Prepared, Lost}
 use Rattle.xa_caller.specs.declared.outcomes.Stop.{Stop as StopOf}
 use Rattle.xa_caller.specs.declared.outcomes.Stop.TheVariants.{Refused, Halt}
-use Rattle.xa_caller.specs.Changes.{TurnsDown, StopsAs}
+use Rattle.xa_caller.specs.Changes.{TurnsDown, StopsAs, IsChangeBy}
+use Rattle.xa_types.specs.declared.stamp.Stamp.{Stamp}
 use Rattle.xa_caller.specs.Caller.{CallerState, Reads, view_of}
 
 -- the view of all that the worker noted, with one event more
@@ -160,6 +163,59 @@ reads_set setup clients worker p view op n least priority phase by above idle re
       set = ap (λ b. priority_asked (newer b (Priority p) view.set)) (eq-eqb p.by.0 worker by);
       unconnected = reads.unconnected;
     }
+
+-- its server's call changed the board
+reads_advertised : (setup : Setup) (clients worker : ℕ) (a : Advertised) (view : CallerView) (op n least m : ℕ) (priority : Option (Bool × ℤ)) (phase : Phase) → a.by.0 ≡ worker → 0 < a.op → a.version ≡ m → least ≤ m → phase ≡ Idle
+    → Reads setup view op n least priority phase → Reads setup (caller_after clients worker (Advertise a) view) a.op n m priority phase
+reads_advertised setup clients worker a view op n least m priority phase by above version recent idle reads =
+    let is_call = is_numbered worker a.by.0 a.op by above in
+    let low = reads.floor in
+    record {
+      called = ap (λ b. op_of (newer b (Advertise a) view.called)) is_call;
+      just = ap (λ b. accepted_in (newer b (Advertise a) view.called)) is_call ∙ sym (ap just_in idle);
+      accepted = reads.accepted;
+      descriptors = reads.descriptors;
+      floor = greatest_one_more view.versions _ (boot setup) m (λ v given. let one = (if_some (a.by.0 == worker) (Some a.version) v given).1 in omega (arith, version, some_is one)) (omega (arith, low, recent));
+      stands = reads.stands;
+      stays = reads.stays;
+      set = reads.set;
+      unconnected = reads.unconnected;
+    }
+
+reads_withdrawn : (setup : Setup) (clients worker : ℕ) (x : Withdrawn) (view : CallerView) (op n least m : ℕ) (priority : Option (Bool × ℤ)) (phase : Phase) → x.by.0 ≡ worker → 0 < x.op → x.version ≡ m → least ≤ m → phase ≡ Idle
+    → Reads setup view op n least priority phase → Reads setup (caller_after clients worker (Withdraw x) view) x.op n m priority phase
+reads_withdrawn setup clients worker x view op n least m priority phase by above version recent idle reads =
+    let is_call = is_numbered worker x.by.0 x.op by above in
+    let low = reads.floor in
+    record {
+      called = ap (λ b. op_of (newer b (Withdraw x) view.called)) is_call;
+      just = ap (λ b. accepted_in (newer b (Withdraw x) view.called)) is_call ∙ sym (ap just_in idle);
+      accepted = reads.accepted;
+      descriptors = reads.descriptors;
+      floor = greatest_one_more view.versions _ (boot setup) m (λ v given. let one = (if_some (x.by.0 == worker) (Some x.version) v given).1 in omega (arith, version, some_is one)) (omega (arith, low, recent));
+      stands = reads.stands;
+      stays = reads.stays;
+      set = reads.set;
+      unconnected = reads.unconnected;
+    }
+
+pub reads_changed : (s : CallerState) (stamp : Stamp) (op version : ℕ) (e : Event) → IsChangeBy s op version e → op ≡ s.op + 1 → s.least ≤ version → s.phase ≡ Idle → Reads s.work.setup (view_of s.work) s.op s.sent s.least s.priority s.phase
+    → Reads s.work.setup (view_of (noted (record { stamp = stamp; event = e }) s.work)) op s.sent version s.priority s.phase
+reads_changed s stamp op version (Advertise a) is next recent idle reads =
+    let w : WorkState = s.work in
+    let by : a.by.0 ≡ w.id.0 = ap (λ id. id.0) is.0 in
+    let number : a.op ≡ op = is.1 in
+    subst (λ (view : CallerView). Reads w.setup view op s.sent version s.priority s.phase) (sym (view-more w (record { stamp = stamp; event = Advertise a }) by))
+    (subst (λ (n : ℕ). Reads w.setup (caller_after w.clients w.id.0 (Advertise a) (view_of w)) n s.sent version s.priority s.phase) number
+    (reads_advertised w.setup w.clients w.id.0 a (view_of w) s.op s.sent s.least version s.priority s.phase by (omega (arith, number, next)) is.3 recent idle reads))
+reads_changed s stamp op version (Withdraw x) is next recent idle reads =
+    let w : WorkState = s.work in
+    let by : x.by.0 ≡ w.id.0 = ap (λ id. id.0) is.0 in
+    let number : x.op ≡ op = is.1 in
+    subst (λ (view : CallerView). Reads w.setup view op s.sent version s.priority s.phase) (sym (view-more w (record { stamp = stamp; event = Withdraw x }) by))
+    (subst (λ (n : ℕ). Reads w.setup (caller_after w.clients w.id.0 (Withdraw x) (view_of w)) n s.sent version s.priority s.phase) number
+    (reads_withdrawn w.setup w.clients w.id.0 x (view_of w) s.op s.sent s.least version s.priority s.phase by (omega (arith, number, next)) is.3 recent idle reads))
+reads_changed s stamp op version _ is next recent idle reads = absurd is
 
 -- one that stands at the server's queue
 pub reads_aside : (setup : Setup) (clients worker : ℕ) (e : Event) (view : CallerView) (op n least : ℕ) (priority : Option (Bool × ℤ)) (phase : Phase) → IsAtQueue e → Reads setup view op n least priority phase → Reads setup (caller_after clients worker e view) op n least priority phase

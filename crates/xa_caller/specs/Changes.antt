@@ -1,6 +1,8 @@
 -- What each call of a caller leaves (this project's own).
 use Rattle.std.specs.Prelude.{◌≡◌, ◌≢◌, ◌⊎◌, ℕ, ℤ, Bool, ◌+◌, ◌-◌, ◌≤◌, ◌^◌, max, true, false, Option, Some, None, IsSome, Result, Ok, Err, [], ◌∷◌}
 use Rattle.std.specs.List.{find, Contains}
+use Rattle.xa_types.specs.declared.ids.CallerId.{CallerId}
+use Rattle.xa_types.specs.declared.ids.QueueId.{QueueId}
 use Rattle.xa_types.specs.declared.stamp.Stamp.{Stamp}
 use Rattle.xa_types.specs.declared.data.Data.{Data}
 use Rattle.xa_types.specs.declared.data.Kind.{Kind}
@@ -10,13 +12,14 @@ use Rattle.xa_types.specs.declared.row.Row.{Row}
 use Rattle.xa_types.specs.Found.{FoundRows}
 use Rattle.xa_types.specs.Kind.{kind_of, is_accepted}
 use Rattle.xa_events.specs.declared.event.Event.{Event}
-use Rattle.xa_events.specs.declared.event.Event.TheVariants.{Accept, Answer, Refuse, Leave, Priority}
+use Rattle.xa_events.specs.declared.event.Event.TheVariants.{Advertise, Withdraw, Accept, Answer, Refuse, Leave, Priority}
 use Rattle.xa_events.specs.declared.event.Evidence.{Evidence}
 use Rattle.xa_events.specs.declared.event.Evidence.TheVariants.{Version, Cells}
 use Rattle.xa_types.specs.declared.setup.Setup.{Setup}
 use Rattle.xa_types.specs.declared.fault.Fault.TheVariants.{NoEnt, IType, Limit}
 use Rattle.xa_events.specs.Answers.{answer_to}
 use Rattle.xa_frame.specs.Spelling.{IsAnswer}
+use Rattle.xa_events.specs.Cases.{queue_by}
 use Rattle.xa_events.specs.Caller.{version_in, is_client}
 use Rattle.xa_cell.specs.Views.{at}
 use Rattle.xa_cell.specs.Known.{known}
@@ -113,6 +116,21 @@ StopsAs setup op payload found (stops.Refused stamp) new old =
     ((find (λ (row : Row). is_accepted setup row.accepts (kind_of payload)) found.rows ≡ None) × TurnsDown op found (stops.Refused stamp) new old)
     ⊎ (IsSome (find (λ (row : Row). is_accepted setup row.accepts (kind_of payload)) found.rows) × Limits op stamp new old)
 StopsAs setup op payload found (stops.Halt halt) new old = HaltsAt old.work.stamp halt × (new ≡ old)
+
+-- ---- changed
+
+-- the caller changes a row of its server's queue by the call with that number, and makes that version
+abbrev pub IsChangeOf : CallerState → ℕ → ℕ → CallerId → ℕ → QueueId → ℕ → Type 0
+IsChangeOf c op version by number queue made = (by ≡ c.work.id) × (number ≡ op) × (queue_by c.work.setup c.work.clients c.work.id.0 ≡ queue.0) × (made ≡ version)
+
+abbrev pub IsChangeBy : CallerState → ℕ → ℕ → Event → Type 0
+IsChangeBy c op version (Advertise a) = IsChangeOf c op version a.by a.op a.queue a.version
+IsChangeBy c op version (Withdraw w) = IsChangeOf c op version w.by w.op w.queue w.version
+IsChangeBy c op version e = ⊥
+
+-- its call changed the board
+abbrev pub changed_by : Stamp → ℕ → ℕ → Event → CallerState → CallerState
+changed_by stamp op version event c = record c { work = noted (record { stamp = stamp; event = event }) c.work; op = op; least = version }
 
 -- ---- sent
 

@@ -5,7 +5,7 @@ ghost use Rattle.xa_types.specs.Configured.{is_configured};
 ghost use Rattle.xa_events.specs.Calls.{is_invalid_call};
 ghost use Rattle.xa_events.specs.Cases.{ShowsItself, IsOwnEvidence};
 ghost use Rattle.xa_events.specs.Board.{boot};
-ghost use Rattle.xa_events.specs.Caller.{version_in, descriptor_limit};
+ghost use Rattle.xa_events.specs.Caller.{version_in, descriptor_limit, is_serving};
 ghost use Rattle.xa_events.specs.Homes.Home.{CallerHome};
 ghost use Rattle.xa_events.specs.Said.{is_op};
 ghost use Rattle.xa_events.specs.Words.{count};
@@ -25,7 +25,7 @@ ghost use Rattle.xa_worker.specs.Work.{HaltsAt, seeing, theirs};
 ghost use Rattle.xa_stamp.specs.Home.{last_stamp, Rises};
 ghost use Rattle.xa_worker.specs.Crew.{no_stamp, stands_at};
 ghost use Rattle.xa_cell.specs.Places.{OpenAre};
-ghost use Rattle.xa_caller.specs.Changes.{FillsNoMore};
+ghost use Rattle.xa_caller.specs.Changes.{FillsNoMore, IsChangeBy, changed_by};
 ghost use Rattle.xa_caller.specs.Phases.{places_in};
 
 use crate::asking::stop;
@@ -512,6 +512,22 @@ impl Caller {
         self.least = version;
         self.priority = None;
         set(&mut self.phase, Phase::Sent(asked));
+    }
+
+    /// Its call changed a row of its server's queue, by that event, which was noted with that stamp and made that version.
+    pub fn changed(&mut self, op: u32, version: u64, stamp: Stamp, event: Snapshot<Event>)
+        requires active { is_serving self.old.work.clients self.old.work.id.0 (theirs self.old.work) ≡ true }
+        requires idle { self.old.phase ≡ phases.Idle }
+        requires turn { op ≡ self.old.op + 1 }
+        requires recent { self.old.least ≤ version }
+        requires change { IsChangeBy self.old op version event.value }
+        requires later { self.old.work.stamp.0 < stamp.0 }
+        requires bound { stamp.0 ≤ 2 ^ 63 }
+        ensures { self.new ≡ changed_by stamp op version event.value self.old }
+    {
+        self.work.noted(stamp, event);
+        self.op = op;
+        self.least = version;
     }
 
     /// Looks for the answer to its request, and is told it where it has come. Where the cell was filled without an answer, since

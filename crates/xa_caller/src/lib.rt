@@ -29,7 +29,9 @@ pub mod cell {
 }
 
 pub mod events {
-    pub use xa_events::{Doing, Ended, Event, Forwarded, Outcome, Started, StopCause, Stopped};
+    pub use xa_events::{
+        Doing, Ended, Event, Evidence, Forwarded, Outcome, Started, StopCause, Stopped,
+    };
 }
 
 pub mod held {
@@ -47,7 +49,7 @@ pub mod queue {
 }
 
 pub mod route {
-    pub use xa_route::{is_same, priority, row_for};
+    pub use xa_route::{is_same, priority, queue_named, queue_of, row_for};
 }
 
 pub mod stamp {

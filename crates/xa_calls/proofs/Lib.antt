@@ -3,3 +3,4 @@ pub mod Seating
 pub mod Going
 pub mod Noting
 pub mod Trying
+pub mod Changed

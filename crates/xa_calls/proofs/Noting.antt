@@ -14,7 +14,7 @@ use Rattle.xa_desk.specs.xa_types.declared.setup.Setup.{Setup}
 use Rattle.xa_desk.specs.xa_types.declared.reply.Reply.TheVariants as replies
 use Rattle.xa_desk.specs.xa_events.declared.event.Doing.{Doing}
 use Rattle.xa_desk.specs.xa_events.declared.event.Event.{Event}
-use Rattle.xa_desk.specs.xa_events.declared.event.Event.TheVariants.{Accept, Answer, Refuse, Priority, Take, Forward, Start, StartFailed, End, Stop as StopOf}
+use Rattle.xa_desk.specs.xa_events.declared.event.Event.TheVariants.{Advertise, Withdraw, Accept, Answer, Refuse, Priority, Take, Forward, Start, StartFailed, End, Stop as StopOf}
 use Rattle.xa_desk.specs.xa_events.declared.event.Evidence.{Evidence}
 use Rattle.xa_desk.specs.xa_events.declared.event.Evidence.TheVariants.{Argument, Version, Cells, AllDown, Queue}
 use Rattle.xa_desk.specs.xa_events.Answers.{answer_to}
@@ -52,9 +52,10 @@ use Rattle.xa_desk.specs.declared.stopped.Stopped.TheVariants as ends
 use Rattle.xa_calls.specs.declared.sending.Tried.{Tried}
 use Rattle.xa_calls.specs.declared.sending.Tried.TheVariants as attempts
 use Rattle.xa_calls.specs.declared.telling.Told.{Told}
+use Rattle.xa_calls.specs.declared.telling.Told.TheVariants.{Done}
 use Rattle.xa_calls.specs.Going.{IsSame, tried_by, refused_by, told_by as looked_by}
 use Rattle.xa_calls.specs.Sending.{IsItsOwn}
-use Rattle.xa_calls.specs.Telling.{IsQuiet, NotesOne, Accepts, Closes, NotesCall, TriedNotes, LookNotes, IsNoWant, StoppedIn, told_of, Says, IsTold}
+use Rattle.xa_calls.specs.Telling.{IsQuiet, NotesOne, Accepts, Closes, Changes, NotesCall, TriedNotes, LookNotes, IsNoWant, StoppedIn, told_of, Says, IsTold}
 
 -- ---- an event of a call
 
@@ -150,12 +151,17 @@ closes_here setup clients caller n x past is closes = at_its (its_worker clients
 abbrev pub TellsNewest : Told → Desk → Type 0
 TellsNewest told desk = (older : List Stamped) (x : Stamped) → desk.caller.work.own ≡ older ++ x ∷ [] → stands_at desk.caller.work.setup desk.caller.work.clients (CallerHome desk.caller.work.id.0) x ≡ true → told ≡ told_of x.event
 
-says_told : (told : Told) (n : ℕ) (old new : Desk) → IsOf old new → TellsNewest told new → NotesOne n Closes old new → Says told n new.caller.work.id.0 (theirs new.caller.work)
-says_told told n old new same tells one =
-    let id = ap (λ (i : CallerId). i.0) same.0 in
-    let its = subst (λ (k : ℕ). is_op k n one.noted.event ≡ true) (sym id) one.its in
-    subst (λ (t : Told). Says t n new.caller.work.id.0 (theirs new.caller.work)) (sym (tells old.caller.work.own one.noted one.own (closes_here new.caller.work.setup new.caller.work.clients new.caller.work.id.0 n one.noted (theirs old.caller.work) its one.shows)))
-    (says_by new.caller.work.id.0 n one.noted.event (theirs old.caller.work) (theirs new.caller.work) its one.shows (theirs_one n Closes old new same one))
+its_still : (n : ℕ) (P : Event → List Event → Type 0) (old new : Desk) → IsOf old new → (one : NotesOne n P old new) → is_op new.caller.work.id.0 n one.noted.event ≡ true
+its_still n P old new same one = subst (λ (k : ℕ). is_op k n one.noted.event ≡ true) (sym (ap (λ (i : CallerId). i.0) same.0)) one.its
+
+tells_one : (told : Told) (n : ℕ) (old new : Desk) → IsOf old new → TellsNewest told new → (one : NotesOne n Closes old new) → told ≡ told_of one.noted.event
+tells_one told n old new same tells one =
+    tells old.caller.work.own one.noted one.own (closes_here new.caller.work.setup new.caller.work.clients new.caller.work.id.0 n one.noted (theirs old.caller.work) (its_still n Closes old new same one) one.shows)
+
+says_told : (told : Told) (n : ℕ) (old new : Desk) → IsOf old new → (one : NotesOne n Closes old new) → told ≡ told_of one.noted.event → Says told n new.caller.work.id.0 (theirs new.caller.work)
+says_told told n old new same one tells =
+    subst (λ (t : Told). Says t n new.caller.work.id.0 (theirs new.caller.work)) (sym tells)
+    (says_by new.caller.work.id.0 n one.noted.event (theirs old.caller.work) (theirs new.caller.work) (its_still n Closes old new same one) one.shows (theirs_one n Closes old new same one))
 
 -- no such event names a tick
 abbrev IsTickless : Desk → Event → Type 0
@@ -171,17 +177,39 @@ accepts_tickless : (clients caller : ℕ) (e : Event) → is_accept e ≡ true �
 accepts_tickless clients caller (Accept a) is = refl
 accepts_tickless clients caller e is = absurd (cc is)
 
-pub told_call : (told : Told) (n : ℕ) (old new : Desk) → IsSame old new → TellsNewest told new → NotesCall n old new → IsTold told n old new
-told_call told n old new same tells (inl one) = record {
+-- one event is all of the call
+told_one : (told : Told) (n : ℕ) (P : Event → List Event → Type 0) (old new : Desk) → IsSame old new → (one : NotesOne n P old new) → IsTickless old one.noted.event → Says told n new.caller.work.id.0 (theirs new.caller.work) → IsTold told n old new
+told_one told n P old new same one tickless says = record {
   more = one.noted.event ∷ [];
-  noted = theirs_one n Closes old new (same.id, same.clients) one;
+  noted = theirs_one n P old new (same.id, same.clients) one;
   added = one.noted ∷ [];
   own = one.own;
   events = refl;
   call = one.its;
-  ticks = All-cons (IsTickless old) one.noted.event [] (closes_tickless old.caller.work.clients old.caller.work.id.0 one.noted.event (theirs old.caller.work) one.shows) (All-nil (IsTickless old));
-  says = says_told told n old new (same.id, same.clients) tells one;
+  ticks = All-cons (IsTickless old) one.noted.event [] tickless (All-nil (IsTickless old));
+  says = says;
 }
+
+pub told_closed : (told : Told) (n : ℕ) (old new : Desk) → IsSame old new → (one : NotesOne n Closes old new) → told ≡ told_of one.noted.event → IsTold told n old new
+told_closed told n old new same one tells =
+    told_one told n Closes old new same one (closes_tickless old.caller.work.clients old.caller.work.id.0 one.noted.event (theirs old.caller.work) one.shows) (says_told told n old new (same.id, same.clients) one tells)
+
+changes_done : (clients caller : ℕ) (e : Event) (past : List Event) → Changes e past → (tick_in clients caller e ≡ None) × (reply_shown_by e past ≡ replies.Done)
+changes_done clients caller (Advertise a) past changes = (refl, refl)
+changes_done clients caller (Withdraw w) past changes = (refl, refl)
+changes_done clients caller e past changes = absurd changes
+
+-- its call changed the board
+pub told_changed : (n : ℕ) (old new : Desk) → IsSame old new → NotesOne n Changes old new → IsTold Done n old new
+told_changed n old new same one =
+    let on : IsOf old new = (same.id, same.clients) in
+    let past = theirs old.caller.work in
+    let caller : ℕ = new.caller.work.id.0 in
+    let done = changes_done old.caller.work.clients old.caller.work.id.0 one.noted.event past one.shows in
+    told_one Done n Changes old new same one done.0 (ap (λ es. reply_at es caller n) (theirs_one n Changes old new on one) ∙ newest_told caller n one.noted.event past (its_still n Changes old new on one) ∙ done.1)
+
+pub told_call : (told : Told) (n : ℕ) (old new : Desk) → IsSame old new → TellsNewest told new → NotesCall n old new → IsTold told n old new
+told_call told n old new same tells (inl one) = told_closed told n old new same one (tells_one told n old new (same.id, same.clients) tells one)
 told_call told n old new same tells (inr (mid, is, first, one)) =
     let on : IsOf mid new = (same.id ∙ sym is.id, same.clients ∙ sym is.clients) in
     record {
@@ -193,12 +221,12 @@ told_call told n old new same tells (inr (mid, is, first, one)) =
       call = (subst (λ (i : CallerId). is_op i.0 n one.noted.event ≡ true) is.id one.its, closes_no_accept one.noted.event (theirs mid.caller.work) one.shows, first.its, first.shows);
       ticks = All-cons (IsTickless old) one.noted.event (first.noted.event ∷ []) (closes_tickless old.caller.work.clients old.caller.work.id.0 one.noted.event (theirs mid.caller.work) one.shows)
           (All-cons (IsTickless old) first.noted.event [] (accepts_tickless old.caller.work.clients old.caller.work.id.0 first.noted.event first.shows) (All-nil (IsTickless old)));
-      says = says_told told n mid new on tells one;
+      says = says_told told n mid new on one (tells_one told n mid new on tells one);
     }
 
 -- ---- by the steps of a caller
 
-its_op : (by caller op : ℕ) → by ≡ caller → 0 < op → (((by == caller) && nat_lt 0 op) && (op == op)) ≡ true
+pub its_op : (by caller op : ℕ) → by ≡ caller → 0 < op → (((by == caller) && nat_lt 0 op) && (op == op)) ≡ true
 its_op by caller op same above = and_from ((by == caller) && nat_lt 0 op) (op == op) (and_from (by == caller) (nat_lt 0 op) (eq-eqb by caller same) (lt-ltb 0 op above)) (eq-eqb op op refl)
 
 notes_one : (n : ℕ) (P : Event → List Event → Type 0) (stamp : Stamp) (event : Event) (left : CallerState) (old new : Desk) → Notes stamp event left new.caller → left.work.own ≡ old.caller.work.own → is_op old.caller.work.id.0 n event ≡ true → P event (theirs old.caller.work)

@@ -75,7 +75,7 @@ module _ (Shown : ℕ → Type 0) (Full : QueueId × ℕ → Type 0) where
 
   -- ---- by a step of the caller
 
-  refused_noted : (op : ℕ) (fault : Fault) (evidence : Evidence) (stamp : Stamp) (old new : CallerState) → IfSome (version_in evidence) Shown → IfSome (full_shown evidence) Full → Refuses op fault evidence stamp new old → NotedOn Shown Full old.work.own new.work.own
+  pub refused_noted : (op : ℕ) (fault : Fault) (evidence : Evidence) (stamp : Stamp) (old new : CallerState) → IfSome (version_in evidence) Shown → IfSome (full_shown evidence) Full → Refuses op fault evidence stamp new old → NotedOn Shown Full old.work.own new.work.own
   refused_noted op fault evidence stamp old new shown full refuses =
       noted_one old.work.own new.work.own (record { stamp = stamp; event = refused op fault evidence old }) (ap (λ (c : CallerState). c.work.own) refuses.made) (shown, full)
 

@@ -1,9 +1,10 @@
 -- What the worker notes of one call, and what its caller is told (XATMI, tpcall; that a server's program is told by a frame is this project's own).
-use Rattle.std.specs.Prelude.{◌≡◌, ◌⊎◌, ℕ, Bool, true, false, List, [], ◌∷◌, ◌++◌, None, Result, Ok, Err}
+use Rattle.std.specs.Prelude.{◌≡◌, ◌⊎◌, ℕ, Bool, true, false, List, [], ◌∷◌, ◌++◌, Option, Some, None, Result, Ok, Err}
 use Rattle.std.specs.List.{All}
+use Rattle.xa_desk.specs.xa_types.declared.fault.Fault.{Fault}
 use Rattle.xa_desk.specs.xa_types.declared.reply.Reply.TheVariants as replies
 use Rattle.xa_desk.specs.xa_events.declared.event.Event.{Event}
-use Rattle.xa_desk.specs.xa_events.declared.event.Event.TheVariants.{Answer, Refuse, Priority}
+use Rattle.xa_desk.specs.xa_events.declared.event.Event.TheVariants.{Advertise, Withdraw, Answer, Refuse, Priority}
 use Rattle.xa_desk.specs.xa_events.declared.event.Replied.{Replied}
 use Rattle.xa_desk.specs.xa_events.Caller.{last_op, tick_of, tick_in}
 use Rattle.xa_desk.specs.xa_events.Said.{is_op, reply_at, refusal_reply}
@@ -71,6 +72,12 @@ LookNotes op (Ok true) old new = NotesOne op Closes old new
 LookNotes op (Ok false) old new = IsQuiet old new
 LookNotes op (Err stopped) old new = IsQuiet old new × IsNoWant stopped
 
+-- its call changed the board
+abbrev pub Changes : Event → List Event → Type 0
+Changes (Advertise a) before = Unit {0}
+Changes (Withdraw w) before = Unit {0}
+Changes e before = ⊥
+
 -- the whole call was noted
 abbrev pub NotesCall : ℕ → Desk → Desk → Type 0
 NotesCall op old new = NotesOne op Closes old new ⊎ ((mid : Desk) × IsSame old mid × NotesOne op Accepts old mid × NotesOne op Closes mid new)
@@ -86,6 +93,10 @@ abbrev pub told_of : Event → Told
 told_of (Refuse r) = tells.Fault r.fault
 told_of (Answer a) = tells.Answered
 told_of e = tells.Done
+
+abbrev pub told_by_error : Option Fault → Told
+told_by_error (Some fault) = tells.Fault fault
+told_by_error None = tells.Done
 
 -- what the caller is told of its call with that number is what its events say of it; of an answer, that it stands as the newest of them, and has a spelling
 abbrev pub Says : Told → ℕ → ℕ → List Event → Type 0

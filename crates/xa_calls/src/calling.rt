@@ -4,13 +4,14 @@ ghost use Rattle.xa_desk.specs.xa_types.declared.call.Op.TheVariants.{Call, Prio
 ghost use Rattle.xa_desk.specs.xa_events.Said.{is_op};
 ghost use Rattle.xa_desk.specs.xa_events.Words.{count};
 ghost use Rattle.xa_desk.specs.xa_worker.Work.{theirs};
+ghost use Rattle.xa_desk.specs.Advertising.{IsChange};
 ghost use Rattle.xa_desk.specs.Desks.{IsDomain};
 ghost use Rattle.xa_desk.specs.xa_caller.Caller.{MayCall};
-ghost use Rattle.xa_calls.specs.Going.{IsReady, IsWaiting, IsStopped, PerformsBy, FoundPending, ToldAs, IsCall, told_by};
+ghost use Rattle.xa_calls.specs.Going.{IsReady, IsWaiting, IsStopped, PerformsBy, FoundPending, ToldAs, IsCallBy, told_by};
 ghost use Rattle.xa_calls.specs.Telling.{IsQuiet, IsNoWant, NotesOne, Closes, LookNotes, NotesCall, StoppedIn, IsTold};
 
 use crate::sending::{refused_by, send};
-use crate::telling::{Told, told_at};
+use crate::telling::{Told, told_at, told_by_error};
 use std::sync::Wait;
 use xa_desk::caller::Step;
 use xa_desk::link::{Gate, Point, stay};
@@ -133,28 +134,58 @@ fn set_priority<W, G>(
     Ok(())
 }
 
+// A call by which the board or the clock would change.
+fn change<W: Wait, G>(
+    monitor: &Monitor<'_, W, G>,
+    desk: &mut Desk,
+    op: u32,
+    change: &Op,
+) -> Result<Told, Stopped>
+    requires domain { IsDomain monitor.now.domain.now }
+    requires ready { IsReady monitor.now.domain.now desk.old.caller.op desk.old }
+    requires active { MayCall desk.old.caller }
+    requires turn { op ≡ desk.old.caller.op + 1 }
+    requires kind { IsChange monitor.now.domain.now.clients desk.old.caller.work.id.0 change.now }
+    ensures goes { PerformsBy monitor.now.domain.now op change.now desk.old desk.new }
+    ensures active { MayCall desk.new.caller }
+    ensures made { OnOk result (IsReady monitor.now.domain.now op desk.new) }
+    ensures stopped { IfErr result (IsStopped desk.new) }
+    ensures told { IfOk result (λ told. IsTold told op desk.old desk.new) }
+    ensures within { IfErr result (λ stopped. StoppedIn op stopped desk.old desk.new) }
+{
+    let refused = desk.change(monitor.rt, monitor.domain, op, change)?;
+    Ok(told_by_error(refused))
+}
+
 // Makes its next call.
 fn make<W: Wait, G>(
     monitor: &Monitor<'_, W, G>,
     desk: &mut Desk,
     number: u32,
     op: &Op,
-) -> Result<(), Stopped>
+) -> Result<Told, Stopped>
     requires domain { IsDomain monitor.now.domain.now }
     requires ready { IsReady monitor.now.domain.now desk.old.caller.op desk.old }
     requires active { MayCall desk.old.caller }
     requires turn { number ≡ desk.old.caller.op + 1 }
-    requires kind { IsCall op.now }
+    requires kind { IsCallBy monitor.now.domain.now.clients desk.old.caller.work.id.0 op.now }
     ensures goes { PerformsBy monitor.now.domain.now number op.now desk.old desk.new }
     ensures active { MayCall desk.new.caller }
     ensures made { OnOk result (IsReady monitor.now.domain.now number desk.new) }
     ensures stopped { IfErr result (IsStopped desk.new) }
-    ensures notes { OnOk result (NotesCall number desk.old desk.new) }
+    ensures told { IfOk result (λ told. IsTold told number desk.old desk.new) }
     ensures within { IfErr result (λ stopped. StoppedIn number stopped desk.old desk.new) }
 {
     match op {
-        Op::Call(ask) => call(monitor, desk, number, ask),
-        Op::Priority(absolute, amount) => set_priority(monitor, desk, number, *absolute, *amount),
+        Op::Call(ask) => {
+            call(monitor, desk, number, ask)?;
+            Ok(told_at(desk))
+        }
+        Op::Priority(absolute, amount) => {
+            set_priority(monitor, desk, number, *absolute, *amount)?;
+            Ok(told_at(desk))
+        }
+        Op::Advertise(..) | Op::Unadvertise(_) | Op::Tick(_) => change(monitor, desk, number, op),
         _ => unreachable!(),
     }
 }
@@ -171,7 +202,7 @@ pub fn perform<W: Wait, G: Gate>(
     requires ready { IsReady monitor.now.domain.now desk.old.caller.op desk.old }
     requires active { MayCall desk.old.caller }
     requires turn { number ≡ desk.old.caller.op + 1 }
-    requires kind { IsCall op.now }
+    requires kind { IsCallBy monitor.now.domain.now.clients desk.old.caller.work.id.0 op.now }
     ensures goes { PerformsBy monitor.now.domain.now number op.now desk.old desk.new }
     ensures active { MayCall desk.new.caller }
     ensures made { OnOk result (IsReady monitor.now.domain.now number desk.new) }
@@ -186,7 +217,7 @@ pub fn perform<W: Wait, G: Gate>(
     }
     let caller = desk.caller.id();
     stay(monitor.gate, Point::BeforeOp(caller, number));
-    make(monitor, desk, number, op)?;
+    let told = make(monitor, desk, number, op)?;
     monitor.gate.passed(Point::AfterOp(caller, number));
-    Ok(told_at(desk))
+    Ok(told)
 }

@@ -3,7 +3,7 @@ ghost use Rattle.std.specs.Prelude.{◌≡◌, ◌∷◌, ◌++◌, true, List, 
 ghost use Rattle.xa_desk.specs.xa_events.Homes.Home.{CallerHome};
 ghost use Rattle.xa_desk.specs.xa_stamp.declared.home.Stamped.{Stamped};
 ghost use Rattle.xa_desk.specs.xa_worker.Crew.{stands_at};
-ghost use Rattle.xa_calls.specs.Telling.{told_of};
+ghost use Rattle.xa_calls.specs.Telling.{told_by_error, told_of};
 
 use xa_desk::Desk;
 use xa_desk::events::Event;
@@ -25,6 +25,16 @@ fn told_of(event: &Event) -> Told
         Event::Refuse(refused) => Told::Fault(refused.fault),
         Event::Answer(_) => Told::Answered,
         _ => Told::Done,
+    }
+}
+
+// What its caller is told of a call that was refused with that error, or done.
+pub(crate) fn told_by_error(refused: Option<Fault>) -> Told
+    ensures { result ≡ told_by_error refused }
+{
+    match refused {
+        Some(fault) => Told::Fault(fault),
+        None => Told::Done,
     }
 }
 

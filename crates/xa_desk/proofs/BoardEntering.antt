@@ -1,10 +1,12 @@
 -- A worker goes to the board, and leaves it.
-use Rattle.std.proofs.Common.{◌≡◌, List, [], ◌∷◌, Option, Result, Ok, Err, refl, sym, ◌∙◌, ap, subst}
+use Rattle.std.proofs.Common.{ℕ, ◌≡◌, List, [], ◌∷◌, Option, Result, Ok, Err, refl, sym, ◌∙◌, ap, subst}
 use Rattle.std.specs.List.{All}
 use Rattle.std.proofs.lemmas.List.Elements.{All-nil, All-cons}
 use Rattle.xa_server.specs.xa_types.declared.ids.CallerId.{CallerId}
 use Rattle.xa_server.specs.xa_types.declared.ids.QueueId.{QueueId}
 use Rattle.xa_server.specs.xa_types.declared.stamp.Stamp.{Stamp}
+use Rattle.xa_server.specs.xa_types.declared.row.Row.{Row}
+use Rattle.xa_board.specs.declared.board.Changed.{Changed}
 use Rattle.xa_board.specs.declared.board.BoardRefused.{BoardRefused}
 use Rattle.xa_board.specs.Board.{ReadsAsNoted}
 use Rattle.xa_server.specs.xa_lock.declared.pass.Page.{Page}
@@ -15,7 +17,7 @@ use Rattle.xa_server.specs.xa_held.declared.kept_board.BoardNote.TheVariants.{Lo
 use Rattle.xa_server.specs.xa_held.declared.kept_board.Clearing.{Clearing}
 use Rattle.xa_server.specs.xa_held.declared.kept_board.Clearing.TheVariants.{Withdrew, Clear}
 use Rattle.xa_server.specs.xa_held.Board.{Held as Board, IsSoundBoard, Turns, maker_of as board_maker}
-use Rattle.xa_server.specs.xa_held.BoardSteps.{ClearedAs, change}
+use Rattle.xa_server.specs.xa_held.BoardSteps.{AdvertisedAs, WithdrewAs, ClearedAs, change}
 use Rattle.xa_server.specs.xa_held.BoardVisits.{BoardVisits, ReachesBoard}
 use Rattle.xa_server.proofs.xa_held.BoardPassing.{grown, visits}
 use Rattle.xa_desk.specs.declared.domain.Domain.{Domain}
@@ -60,6 +62,14 @@ pub clear_adds : {there now : Board} (old : Desk) (seen : Stamp) (maker : Caller
 clear_adds old seen maker is queue (Ok (Withdrew noted)) t = (change maker noted, adds_there (one_there old maker _ is refl) t)
 clear_adds old seen maker is queue (Ok (Clear look)) t = (Looked look ∷ [], adds_there (one_there old maker (Looked look) is (ap (λ (m : CallerId). m.0) t.how.0.its)) t)
 clear_adds old seen maker is queue (Err why) t = ([], adds_there (none_there old) t)
+
+pub advertise_adds : {there now : Board} (old : Desk) (seen : Stamp) (maker : CallerId) → maker ≡ old.caller.work.id → (by : CallerId) (op : ℕ) (row : Row) (r : Result Changed BoardRefused) → AdvertisedAs (Turns there now) seen maker by op row r → (more : List BoardNote) × AddsToBoard old there now more
+advertise_adds old seen maker is by op row (Ok done) t = (change maker done.noted, adds_there (one_there old maker _ is refl) t)
+advertise_adds old seen maker is by op row (Err why) t = ([], adds_there (none_there old) t)
+
+pub withdraw_adds : {there now : Board} (old : Desk) (seen : Stamp) (maker : CallerId) → maker ≡ old.caller.work.id → (by : CallerId) (op : ℕ) (service : List ℕ) (queue : QueueId) (r : Result Changed BoardRefused) → WithdrewAs (Turns there now) seen maker by op service queue r → (more : List BoardNote) × AddsToBoard old there now more
+withdraw_adds old seen maker is by op service queue (Ok done) t = (change maker done.noted, adds_there (one_there old maker _ is refl) t)
+withdraw_adds old seen maker is by op service queue (Err why) t = ([], adds_there (none_there old) t)
 
 -- what is found by the lent value is what was found
 board_lent : {d : Domain} {old : Desk} {held there : Board} {page : Page BoardNote} {left : Option BoardPass} → IsAtBoard d old held page left → there ≡ held → IsAtBoard d old there page left

@@ -31,7 +31,7 @@ use Rattle.xa_desk.specs.declared.domain.Domain.{Domain}
 use Rattle.xa_desk.specs.declared.desk.Desk.{Desk}
 use Rattle.xa_desk.specs.Whole.{Whole, IsKnown}
 use Rattle.xa_desk.specs.Desks.{IsGrounded, IsBoardPass, IsQueuePass, IsThere, GoesOn, IsDesk, Leads, page_in, page_at, board_page, queue_page}
-use Rattle.xa_desk.proofs.Leading.{Grew, grew_none, Moves, none_leads, starts_same, there, filled_more, among_at, on_home, off_home, grounded_stay, queue_pass_stays}
+use Rattle.xa_desk.proofs.Leading.{Grew, grew_none, Moves, none_leads, starts_same, starts_trans, there, filled_more, among_at, on_home, off_home, grounded_stay, queue_pass_stays}
 use Rattle.xa_desk.proofs.Seating.{TakesOn, takes_same, none_taken}
 use Rattle.xa_desk.proofs.Visiting.{larger_known}
 
@@ -60,6 +60,12 @@ module _ {d : Domain} {old new : Desk} {p p' : LockPass BoardNote} (step : Board
   pub board_front : (whole : Whole) → GoesOn d whole new → StartsWith whole.board.notes (page_of p').seen
   board_front whole on = subst (λ (o : Option (LockPass BoardNote)). StartsWith whole.board.notes (page_in o).seen) step.now on.board
 
+  -- and what the pass had seen before stands first in that
+  pub board_grew : {more : List BoardNote} {How : Held → Held → Type 0} → BoardVisits (page_of p) (page_of p') more How → StartsWith (board_page new).seen (board_page old).seen
+  board_grew {more} v =
+      let grew = starts_trans (page_of p').seen v.old.notes (page_of p).seen (more, v.saw ∙ v.grew) v.knew.1 in
+      subst (λ o. StartsWith (page_in o).seen (board_page old).seen) (sym step.now) (subst (λ o. StartsWith (page_of p').seen (page_in o).seen) (sym step.was) grew)
+
   -- so the stamp of the last one is known, or 0
   pub reach_known : (whole : Whole) → GoesOn d whole new → (last : Stamp) → ReachesBoard (page_of p') last → IsKnown whole last
   reach_known whole on last reaches = elim reaches.is [ inl none ↦ inl none | inr has ↦ stamp_known whole (page_of p').seen (board_front whole on) last has ]
@@ -74,17 +80,20 @@ module _ {d : Domain} {old new : Desk} {p p' : LockPass BoardNote} (step : Board
     board_sees_more : StartsWith (page_of p').seen (page_of p).seen
     board_sees_more = seen_more (page_of p) (page_of p') more visits
 
-    version_rises : published (past_in (changes_at (page_of p).seen)) ≤ published (past_in (changes_at (page_of p').seen))
+    pub version_rises : published (past_in (changes_at (page_of p).seen)) ≤ published (past_in (changes_at (page_of p').seen))
     version_rises = published-front (changes_at (page_of p').seen) (changes_at (page_of p).seen) (changes_front (page_of p').seen (page_of p).seen board_sees_more)
 
+    -- the least version that the caller may read was seen, where it is what it was
+    pub least_stays : new.caller.least ≡ old.caller.least → new.caller.least ≤ published (past_in (changes_at (page_of p').seen))
+    least_stays same = let least = least_before in let rises = version_rises in omega (arith, least, same, rises)
+
     -- what was noted there is all that the worker has to know, where it reads no older version
-    pub board_moves : Grew old.caller.work new.caller.work (changes_at more) → All (λ (x : Stamped). home_of d.setup d.clients x.event ≡ BoardHome) (changes_at more) → new.caller.seat ≡ old.caller.seat → All (IsGrounded new.caller.work.own) more → new.caller.least ≡ old.caller.least
+    pub board_moves : Grew old.caller.work new.caller.work (changes_at more) → All (λ (x : Stamped). home_of d.setup d.clients x.event ≡ BoardHome) (changes_at more) → new.caller.seat ≡ old.caller.seat → All (IsGrounded new.caller.work.own) more → new.caller.least ≤ published (past_in (changes_at (page_of p').seen))
         → All (λ (x : Stamped). x.stamp.0 ≤ new.caller.work.stamp.0) (changes_at (page_of p').seen) → Moves d old new (changes_at more)
-    board_moves grew home seat grounded same reached =
+    board_moves grew home seat grounded low reached =
         let is = step.is in
         let w : WorkState = old.caller.work in
         let w' : WorkState = new.caller.work in
-        let least = least_before in
         let rises = version_rises in
         let visited : IsBoardPass d w' p' = record {
           lock = step.lock;
@@ -103,7 +112,7 @@ module _ {d : Domain} {old new : Desk} {p p' : LockPass BoardNote} (step : Board
           taken = takes.taken;
           filled = filled_more w w' (changes_at more) (known old.caller.seat) (known new.caller.seat) grew takes is.filled;
           took = none_taken d.setup d.clients BoardHome (known new.caller.seat) (changes_at more) (λ caller same. cc same) home;
-          least = subst (λ (o : Option (LockPass BoardNote)). new.caller.least ≤ published (past_in (changes_at (page_in o).seen))) (sym step.now) (omega (arith, least, same, rises));
+          least = subst (λ (o : Option (LockPass BoardNote)). new.caller.least ≤ published (past_in (changes_at (page_in o).seen))) (sym step.now) low;
           board = subst (IsThere (IsBoardPass d w')) (sym step.now) visited;
           board_seen = subst (λ o. StartsWith (page_in o).seen (board_page old).seen) (sym step.now) (subst (λ o. StartsWith (page_of p').seen (page_in o).seen) (sym step.was) board_sees_more);
           count = ap length step.queues;
@@ -122,6 +131,6 @@ module _ {d : Domain} {old new : Desk} {p p' : LockPass BoardNote} (step : Board
         let grew : Grew w new.caller.work [] = grew_none w new.caller.work w.room (record { 0 = max w.stamp.0 seen.0 }) (ap (λ (c : CallerState). c.work) caller) (omega arith) in
         none_leads step.is
         (subst (Moves d old new) none (board_moves (subst (Grew w new.caller.work) (sym {A = List Stamped} none) grew) (subst (All (λ (x : Stamped). home_of d.setup d.clients x.event ≡ BoardHome)) (sym {A = List Stamped} none) (All-nil (λ (x : Stamped). home_of d.setup d.clients x.event ≡ BoardHome)))
-        (ap (λ (c : CallerState). c.seat) caller) (grounded_stay w new.caller.work [] grew more grounded) (ap (λ (c : CallerState). c.least) caller)
+        (ap (λ (c : CallerState). c.seat) caller) (grounded_stay w new.caller.work [] grew more grounded) (least_stays (ap (λ (c : CallerState). c.least) caller))
         (All-weaker (λ (x : Stamped). x.stamp.0 ≤ seen.0) (λ (x : Stamped). x.stamp.0 ≤ new.caller.work.stamp.0) (λ x le. omega (arith, le, higher)) (changes_at (page_of p').seen) reached)))
         (λ whole on back. subst (IsKnown whole) (sym stamp) (larger_known whole w.stamp seen (step.is.known_stamp whole back) (is_known whole on back)))

@@ -54,7 +54,7 @@ use Rattle.xa_desk.specs.Made.{IsMade}
 use Rattle.xa_desk.specs.Desks.{IsGrounded, GoesOn, HasGrounds, IsShown, Leads, page_at, queue_page}
 use Rattle.xa_desk.specs.Serving.{IsDeserted, IsCleared, OfDomain, IsHaltNear, halt_by, seen_by}
 use Rattle.xa_server.proofs.xa_held.Changed.{withdrawal_met}
-use Rattle.xa_desk.proofs.Boarding.{BoardStep, board_front, board_before, stamp_known, reach_known, board_moves, board_seen_leads}
+use Rattle.xa_desk.proofs.Boarding.{BoardStep, least_stays, board_front, board_before, stamp_known, reach_known, board_moves, board_seen_leads}
 use Rattle.xa_desk.proofs.Leading.{Grew, grew_one, is_behind, one_leads, starts_trans}
 use Rattle.xa_desk.proofs.Falling.{gave_on, of_domain, of_none}
 use Rattle.xa_desk.proofs.Visiting.{stamp_is, larger_known}
@@ -77,7 +77,7 @@ deserted_still d queue old new passes leads deserted =
     }
 
 -- a row that stands isn't withdrawn only where memory ran out or stamps are at their end, which is that number then
-abbrev EndsAt : ℕ → Halt → Type 0
+abbrev pub EndsAt : ℕ → Halt → Type 0
 EndsAt n halts.NoMemory = Unit {0}
 EndsAt n (halts.Worn stamp) = (stamp.0 ≡ 2 ^ 63) × (stamp.0 ≡ n)
 
@@ -99,14 +99,14 @@ refused_near p p' seen maker queue why low refused =
       | inr memory ↦ subst (λ (w : BoardRefused). EndsAt n (halt_by w)) (sym memory) tt
     ])
 
-seen_reached : (page : Page BoardNote) (halt : Halt) (last : Stamp) (n : ℕ) → EndsAt n halt → ReachesBoard page last → All (λ (x : Stamped). x.stamp.0 ≤ (seen_by halt last).0) (changes_at page.seen)
+pub seen_reached : (page : Page BoardNote) (halt : Halt) (last : Stamp) (n : ℕ) → EndsAt n halt → ReachesBoard page last → All (λ (x : Stamped). x.stamp.0 ≤ (seen_by halt last).0) (changes_at page.seen)
 seen_reached page halts.NoMemory last n near reaches = reaches.each
 seen_reached page (halts.Worn stamp) last n near reaches =
     let bound = reaches.bound in
     let end = near.0 in
     All-weaker (λ (x : Stamped). x.stamp.0 ≤ last.0) (λ (x : Stamped). x.stamp.0 ≤ stamp.0) (λ x le. omega (arith, le, bound, end)) (changes_at page.seen) reaches.each
 
-seen_known : (whole : Whole) (halt : Halt) (last : Stamp) (n : ℕ) → EndsAt n halt → IsKnown whole last → IsKnown whole (record { 0 = n }) → IsKnown whole (seen_by halt last)
+pub seen_known : (whole : Whole) (halt : Halt) (last : Stamp) (n : ℕ) → EndsAt n halt → IsKnown whole last → IsKnown whole (record { 0 = n }) → IsKnown whole (seen_by halt last)
 seen_known whole halts.NoMemory last n near is end = is
 seen_known whole (halts.Worn stamp) last n near is end = subst (IsKnown whole) (sym (stamp_is stamp n near.1)) end
 
@@ -135,7 +135,7 @@ module _ {d : Domain} {desk new : Desk} {p p' : LockPass BoardNote} (step : Boar
     withdrawn_is = withdrew.how.2.event_is
 
     grew : Grew w new.caller.work (its ∷ [])
-    grew = grew_one w new.caller.work w.room its (ap (λ (c : CallerState). c.work) caller) rises (subst IsMade (sym withdrawn_is) refl)
+    grew = grew_one w new.caller.work w.room its (ap (λ (c : CallerState). c.work) caller) rises (subst IsMade (sym withdrawn_is) tt)
 
     old_front : (whole : Whole) → GoesOn d whole new → StartsWith whole.board.notes withdrew.old.notes
     old_front whole on = starts_trans whole.board.notes withdrew.new.notes withdrew.old.notes (subst (StartsWith whole.board.notes) withdrew.saw (board_front step whole on)) (change maker out, withdrew.grew)
@@ -150,7 +150,7 @@ module _ {d : Domain} {desk new : Desk} {p p' : LockPass BoardNote} (step : Boar
             saw = λ ours. subst (λ (l : List Stamped). SawFront l out.stamp (AllGone d.setup queue.0)) (events_kept (whole.queues queue.0))
                 (gone_front d.setup queue.0 w.stamp out.stamp (queue_page desk queue.0) (notes_of (whole.queues queue.0)) left.left (back.queues queue.0) rises);
             told = tt;
-            clears = left.last whole back out.stamp rises;
+            clears = λ ours. left.last whole back out.stamp rises;
           });
           met = λ board. withdrawal_met d.setup (page_of p) (page_of p') maker whole.board (board_front step whole on) seen queue out withdrew;
           before = record { 0 = max w.stamp.0 withdrew.old.last.0 };
@@ -163,7 +163,7 @@ module _ {d : Domain} {desk new : Desk} {p p' : LockPass BoardNote} (step : Boar
         let stamp : new.caller.work.stamp ≡ out.stamp = ap (λ (c : CallerState). c.work.stamp) caller in
         one_leads its step.is
         (board_moves step withdrew grew (All-cons (λ (x : Stamped). home_of d.setup d.clients x.event ≡ BoardHome) its [] (ap (home_of d.setup d.clients) withdrawn_is) (All-nil (λ (x : Stamped). home_of d.setup d.clients x.event ≡ BoardHome))) (ap (λ (c : CallerState). c.seat) caller)
-        (All-cons (IsGrounded new.caller.work.own) _ [] tt (All-nil (IsGrounded new.caller.work.own))) (ap (λ (c : CallerState). c.least) caller)
+        (All-cons (IsGrounded new.caller.work.own) _ [] tt (All-nil (IsGrounded new.caller.work.own))) (least_stays step withdrew (ap (λ (c : CallerState). c.least) caller))
         (reached_last (page_of p').seen withdrew.new withdrew.saw withdrew.sound new.caller.work.stamp (withdrew.how.2.last ∙ sym stamp))) stamp shown
 
     pub withdrew_clears : new.queues.items ≡ desk.queues.items → Leads d desk new × IsDeserted d queue.0 new × OfDomain desk new × HasStamp new.caller.work.own new.caller.work.stamp

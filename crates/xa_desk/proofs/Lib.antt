@@ -13,6 +13,9 @@ pub mod Falling
 pub mod Dying
 pub mod Starting
 pub mod Cleared
+pub mod Advertising
+pub mod Refusals
+pub mod OwnQueue
 pub mod Parting
 pub mod Fitting
 pub mod Refusing

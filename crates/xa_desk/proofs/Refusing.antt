@@ -59,7 +59,7 @@ module _ (d : Domain) (desk : Desk) (left new : CallerState) (op : ℕ) (fault :
 
   module _ (saw : (whole : Whole) → GoesOn d whole desk → SawEvidence d.setup d.clients (entries_of whole) stamp left.work.id evidence (past_in desk.caller.work.own))
       (told : (whole : Whole) → GoesOn d whole desk → ToldEvidence d.setup d.clients (entries_of whole) stamp left.work.id evidence (its_events d desk)) where
-    refuse_leads : Leads d desk (record desk { caller = new })
+    pub refuse_leads : Leads d desk (record desk { caller = new })
     refuse_leads =
         let made = refuses.made in
         let low = is.least in

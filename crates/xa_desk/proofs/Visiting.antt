@@ -24,7 +24,6 @@ use Rattle.xa_server.specs.xa_worker.Crew.{no_stamp, stands_at}
 use Rattle.xa_server.specs.xa_worker.Seen.{past_in}
 use Rattle.xa_server.specs.xa_cell.declared.tokens.Seat.{Seat}
 use Rattle.xa_server.specs.xa_cell.Known.{known, IsSeatOf}
-use Rattle.xa_server.specs.xa_cell.Views.{at}
 use Rattle.xa_server.proofs.xa_cell.Lists.{decided, below}
 use Rattle.xa_server.specs.xa_queue.Changes.{next_stamp, IsWorn}
 use Rattle.xa_server.specs.xa_types.declared.stamp.Worn.{Worn}

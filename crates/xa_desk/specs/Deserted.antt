@@ -27,9 +27,9 @@ pub record GaveUpLast (setup : Setup) (queue : ℕ) (entries own : List Stamped)
   pub until : All (λ (x : Stamped). x.stamp.0 ≤ reach.0) front
   pub all : AllGone setup queue (past_in front)
 
--- where the homes have these entries, the worker withdraws a row of a queue, takes it down or sweeps a request there only behind that
+-- where the homes have these entries, the worker withdraws a row of a queue for the domain, takes it down or sweeps a request there only behind that
 abbrev pub ClearsBehind : Setup → (Home → List Stamped) → List Stamped → Stamp → Event → Type 0
-ClearsBehind setup entries own stamp (Withdraw w) = GaveUpLast setup w.queue.0 (entries (QueueHome w.queue.0)) own stamp
+ClearsBehind setup entries own stamp (Withdraw w) = w.by.0 ≡ 0 → GaveUpLast setup w.queue.0 (entries (QueueHome w.queue.0)) own stamp
 ClearsBehind setup entries own stamp (Sweep x) = GaveUpLast setup x.queue.0 (entries (QueueHome x.queue.0)) own stamp
 ClearsBehind setup entries own stamp (Down queue) = GaveUpLast setup queue.0 (entries (QueueHome queue.0)) own stamp
 ClearsBehind setup entries own stamp e = Unit {0}

@@ -7,6 +7,7 @@ pub mod Halting
 pub mod Found
 pub mod Looks
 pub mod Steps
+pub mod Advertising
 pub mod Parting
 pub mod Serving
 pub mod Passing

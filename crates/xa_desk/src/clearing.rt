@@ -15,7 +15,7 @@ use xa_server::types::{QueueId, Stamp};
 use xa_server::work::Halt;
 
 // How it halts where a row that stands isn't withdrawn.
-fn halt_by(refused: BoardRefused) -> Halt
+pub(crate) fn halt_by(refused: BoardRefused) -> Halt
     ensures { result ≡ halt_by refused }
 {
     match refused {

@@ -4,6 +4,7 @@
 #![tactic(auto)]
 
 mod calls;
+mod changing;
 mod clearing;
 mod departure;
 mod desk;

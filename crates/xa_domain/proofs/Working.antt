@@ -76,7 +76,7 @@ module _ (d : Domain) where
   -- ---- the domain itself
 
   boots_made : (e : Event) → IsBoots e → IsMade e
-  boots_made (Advertise a) is = is.0
+  boots_made (Advertise a) is = tt
   boots_made _ is = absurd is
 
   boots_among : (n : ℕ) (e : Event) → IsBoots e → IsAmong n (home_of d.setup d.clients e)

@@ -6,6 +6,7 @@ pub mod Calling
 pub mod Forwards
 pub mod Conversations
 pub mod Advertising
+pub mod Written
 pub mod Talkers
 pub mod Restarts
 pub mod Faults

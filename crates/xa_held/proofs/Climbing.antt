@@ -117,6 +117,10 @@ bare_rows : (rows : List Row) → map put_of rows ≡ [] → rows ≡ []
 bare_rows [] none = refl
 bare_rows (row ∷ rows) none = absurd (cc none)
 
+-- the last stamp is that of a change or a look, or 0
+pub ended : (held : Held) → IsSoundBoard held → (held.last.0 ≡ 0) ⊎ HasStampIn held.notes held.last
+ended held sound = elim (topped held.board.first.0 held.notes held.last sound.latest) [ inl bare ↦ inl (sym sound.latest ∙ (bare.0 ∙ sound.begins)) | inr stands ↦ inr stands ]
+
 -- where a row stands the last stamp is that of a change or a look
 pub stamped : (queue : ℕ) (held : Held) → IsSoundBoard held → ReadsAsNoted held.board → (row : Row) → slice_get (rows_on queue held.board.rows) 0 ≡ Some row → HasStampIn held.notes held.last
 stamped queue held sound reads row first = elim (topped held.board.first.0 held.notes held.last sound.latest) [

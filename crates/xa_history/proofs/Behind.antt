@@ -412,7 +412,7 @@ module _ {W : Type 0} (d : Domain) (b : Back) (domain : WorkState) (desks : List
   }
 
   clears_last : (worker : ℕ) → worker < workers → (own : List Stamped) → ((x : Stamped) → Contains own x → Contains (noted worker) x) → (stamp : Stamp) (e : Event) → ClearsBehind d.setup at_homes own stamp e → ClearsLast d.setup d.clients homes worker (noted worker) stamp e
-  clears_last worker low own within stamp (Withdraw w) clears = gave_last worker low own within w.queue.0 stamp clears
+  clears_last worker low own within stamp (Withdraw w) clears = λ zero. gave_last worker low own within w.queue.0 stamp (clears zero)
   clears_last worker low own within stamp (Sweep x) clears = gave_last worker low own within x.queue.0 stamp clears
   clears_last worker low own within stamp (Down queue) clears = gave_last worker low own within queue.0 stamp clears
   clears_last worker low own within stamp _ clears = tt

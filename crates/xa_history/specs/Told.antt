@@ -66,7 +66,7 @@ pub record GaveUpLast (setup : Setup) (clients : ℕ) (homes : List Notes) (work
 
 -- the worker withdraws a row of a queue, takes it down or sweeps a request there only behind that
 abbrev pub ClearsLast : Setup → ℕ → List Notes → ℕ → List Stamped → Stamp → Event → Type 0
-ClearsLast setup clients homes worker own stamp (Withdraw w) = GaveUpLast setup clients homes worker own w.queue.0 stamp
+ClearsLast setup clients homes worker own stamp (Withdraw w) = w.by.0 ≡ 0 → GaveUpLast setup clients homes worker own w.queue.0 stamp
 ClearsLast setup clients homes worker own stamp (Sweep x) = GaveUpLast setup clients homes worker own x.queue.0 stamp
 ClearsLast setup clients homes worker own stamp (Down queue) = GaveUpLast setup clients homes worker own queue.0 stamp
 ClearsLast setup clients homes worker own stamp e = ⊤

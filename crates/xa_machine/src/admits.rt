@@ -24,12 +24,13 @@ use crate::called::version_of;
 use crate::ending::was_settled;
 use crate::machine::{Machine, is_client};
 use crate::served::{Last, is_shutdown};
-use crate::setups::{capacity_of, may_start, queue_of};
+use crate::setups::{capacity_of, may_start};
 use crate::words::{has, is_none};
 use xa_events::{
     Broken, Cancelled, Doing, Ended, Event, Lapsed, Outcome, Prioritized, Replied, Started,
     StopCause, Stopped, Swept, Taken, Ticked, Unready,
 };
+use xa_route::queue_of;
 use xa_types::{CallerId, Generation, QueueId, RequestId, ServerId};
 
 pub fn is_off(doing: Doing) -> bool
@@ -110,7 +111,7 @@ impl Machine {
     pub(crate) fn admits_take_home(&self, t: &Taken) -> bool
         ensures { Decides result (TakeHome self.now.setup t.now self.now.past) }
     {
-        let queue = self.queue(queue_of(&self.setup, t.server.0));
+        let queue = self.queue(queue_of(&self.setup, t.server).0);
         !queue.down && 0 < t.k && t.k - 1 == queue.takes && has(t.request, &queue.waiting)
     }
 
@@ -144,7 +145,7 @@ impl Machine {
     pub(crate) fn admits_gone_home(&self, server: ServerId) -> bool
         ensures { Decides result (GoneHome self.now.setup server.0 self.now.past) }
     {
-        0 < queue_of(&self.setup, server.0) && !self.server(server.0).gone
+        0 < queue_of(&self.setup, server).0 && !self.server(server.0).gone
     }
 
     pub(crate) fn admits_gone_worker(&self, server: ServerId) -> bool
@@ -152,7 +153,7 @@ impl Machine {
     {
         let row = self.server(server.0);
         let floor = self.caller(self.of_server(server)).tick;
-        is_off(row.doing) && !row.shut && !may_start(&self.setup, server.0, &row.starts, floor)
+        is_off(row.doing) && !row.shut && !may_start(&self.setup, server, &row.starts, floor)
     }
 
     pub(crate) fn admits_close_home(&self, queue: QueueId) -> bool
@@ -198,7 +199,7 @@ impl Machine {
             && !row.gone
             && !row.shut
             && self.admits_next_start(b)
-            && may_start(&self.setup, b.server.0, &row.starts, b.tick)
+            && may_start(&self.setup, b.server, &row.starts, b.tick)
     }
 
     fn is_alive(&self, x: &Stopped) -> bool
@@ -218,7 +219,7 @@ impl Machine {
     pub(crate) fn admits_stop_before(&self, x: &Stopped) -> bool
         ensures { Decides result (x.now.cause ≡ Shutdown → IsShut self.now.setup (queue_of self.now.setup x.now.server.0) self.now.past) }
     {
-        let queue = self.queue(queue_of(&self.setup, x.server.0));
+        let queue = self.queue(queue_of(&self.setup, x.server).0);
         !is_shutdown(x.cause) || queue.closed && is_none(&queue.waiting)
     }
 
@@ -354,8 +355,8 @@ impl Machine {
         ensures { Decides result (AllGone self.now.setup queue self.now.past) }
     {
         for server in 0..self.setup.servers.slice().len() {
-            let server = server as u16 + 1;
-            if queue_of(&self.setup, server) == queue && !self.server(server).gone {
+            let server = ServerId(server as u16 + 1);
+            if queue_of(&self.setup, server).0 == queue && !self.server(server.0).gone {
                 return false;
             }
         }

@@ -10,11 +10,12 @@ ghost use Rattle.xa_machine.specs.Shown.{change_of};
 
 use crate::ending::same_name;
 use crate::machine::Machine;
-use crate::setups::{capacity_of, queue_of};
+use crate::setups::capacity_of;
 use crate::standing::{none_on, row_of};
 use crate::tables::BoardChange;
 use xa_events::{Advertised, Withdrawn};
-use xa_types::{CallerId, QueueId, Row};
+use xa_route::queue_of;
+use xa_types::{CallerId, QueueId, Row, ServerId};
 
 // Whether the change is that which the event makes.
 fn is_put(change: &BoardChange, a: &Advertised) -> bool
@@ -92,7 +93,7 @@ impl Machine {
         self.clients < by.0
             && self.admits_call(by, op)
             && self.in_hand(by).is_some()
-            && queue_of(&self.setup, by.0 - self.clients) == queue.0
+            && queue_of(&self.setup, ServerId(by.0 - self.clients)).0 == queue.0
     }
 
     fn admits_change(&self, by: CallerId, op: u32, queue: QueueId) -> bool

@@ -8,10 +8,10 @@ ghost use Rattle.xa_machine.specs.Shown.{change_of};
 use crate::caller::CallerRow;
 use crate::queued::QueueRow;
 use crate::served::ServerRow;
-use crate::setups::queue_named;
 use crate::tables::BoardChange;
 use std::alloc::Global;
-use xa_types::{NoMemory, QueueId, ServiceSetup, Setup};
+use xa_route::queue_named;
+use xa_types::{NoMemory, ServiceSetup, Setup};
 
 pub fn new_servers(alloc: Global, many: usize) -> Result<Vec<ServerRow>, NoMemory>
     ensures len { IfOk result (λ rows. length rows.items ≡ many) }
@@ -56,7 +56,7 @@ fn put_service(
     ensures { OnOk result (map change_of changes.new.items ≡ map change_of changes.old.items ++ changes_of setup.now service.now) }
 {
     for name in service.queues.slice() {
-        let queue = QueueId(queue_named(setup, name));
+        let queue = queue_named(setup, name);
         changes.push(BoardChange::Put(service.name, queue, service.routine))?;
     }
     Ok(())

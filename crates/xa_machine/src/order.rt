@@ -7,9 +7,9 @@ ghost use Rattle.xa_events.specs.Order.{next_of, first_of_highest, TakesNext};
 ghost use Rattle.xa_events.specs.Request.{priority_at, is_entry_of, priority_in};
 
 use crate::machine::Machine;
-use crate::setups::queue_of;
 use crate::words::same_request;
 use xa_events::Event;
+use xa_route::queue_of;
 use xa_types::RequestId;
 
 fn is_entry_of(request: RequestId, event: &Event) -> bool
@@ -91,7 +91,7 @@ impl Machine {
     {
         match event {
             Event::Take(t) => {
-                self.next_take(queue_of(&self.setup, t.server.0), t.k) == Some(t.request)
+                self.next_take(queue_of(&self.setup, t.server).0, t.k) == Some(t.request)
             }
             _ => true,
         }

@@ -20,10 +20,10 @@ use crate::holding::{Held, note_held};
 use crate::opening::{booting, new_callers, new_queues, new_servers};
 use crate::queued::QueueRow;
 use crate::served::ServerRow;
-use crate::setups::queue_of;
 use crate::standing::{Version, change_in, first_version, note_version, rows_at};
 use std::alloc::Global;
 use xa_events::Event;
+use xa_route::queue_of;
 use xa_types::{Name, NoMemory, QueueId, Row, ServerId, Setup};
 
 /// A change of the board.
@@ -78,10 +78,10 @@ pub fn queue_home(setup: &Setup, event: &Event) -> Option<u16>
 {
     match event {
         Event::Accept(a) => Some(a.queue.0),
-        Event::Take(t) => Some(queue_of(setup, t.server.0)),
+        Event::Take(t) => Some(queue_of(setup, t.server).0),
         Event::Forward(f) => Some(f.queue.0),
         Event::Sweep(x) => Some(x.queue.0),
-        Event::Gone(server) => Some(queue_of(setup, server.0)),
+        Event::Gone(server) => Some(queue_of(setup, *server).0),
         Event::Down(queue) => Some(queue.0),
         Event::Close(queue) => Some(queue.0),
         _ => None,

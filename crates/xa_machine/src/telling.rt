@@ -10,11 +10,10 @@ ghost use Rattle.xa_events.specs.Cases.{Shows, ShowsAt, IsToldEvidence, queue_by
 ghost use Rattle.xa_machine.specs.Parts.{is_routine};
 
 use crate::machine::Machine;
-use crate::setups::queue_of;
 use crate::standing::{Version, row_of};
 use xa_events::Evidence;
-use xa_route::is_same;
-use xa_types::{CallerId, Name, QueueId, Row};
+use xa_route::{is_same, queue_of};
+use xa_types::{CallerId, Name, QueueId, Row, ServerId};
 
 // Whether there is a row, with that routine.
 fn is_routine(row: Option<&Row>, routine: &Name) -> bool
@@ -68,7 +67,7 @@ impl Machine {
     fn queue_by(&self, caller: CallerId) -> QueueId
         ensures { result.0 ≡ queue_by self.now.setup self.now.clients caller.0 }
     {
-        QueueId(queue_of(&self.setup, caller.0.saturating_sub(self.clients)))
+        queue_of(&self.setup, ServerId(caller.0.saturating_sub(self.clients)))
     }
 
     // Whether a version shows it that the caller may still read.

@@ -5,7 +5,7 @@ use Rattle.std.specs.List.{filter}
 use Rattle.xa_types.specs.declared.data.Data.{Data}
 use Rattle.xa_types.specs.declared.call.Rval.{Rval}
 use Rattle.xa_types.specs.declared.call.Op.{Op}
-use Rattle.xa_types.specs.declared.call.Op.TheVariants.{Call, Priority}
+use Rattle.xa_types.specs.declared.call.Op.TheVariants.{Call, Priority, Advertise, Unadvertise, Tick}
 use Rattle.xa_types.specs.declared.reply.Answer.{Answer}
 use Rattle.xa_types.specs.declared.reply.Reply.{Reply as Told}
 use Rattle.xa_types.specs.declared.reply.Reply.TheVariants.{Answered}
@@ -69,6 +69,9 @@ finish_frame tag (Forwards forward) = forward_frame tag forward.service forward.
 abbrev pub may_call : Op → Bool
 may_call (Call ask) = true
 may_call (Priority absolute amount) = true
+may_call (Advertise service routine) = true
+may_call (Unadvertise service) = true
+may_call (Tick n) = true
 may_call op = false
 
 -- the OP of a call that a service makes as it serves the invocation with that number

@@ -80,11 +80,15 @@ pub(crate) fn is_finish(frame: &Frame, number: u32) -> bool
     }
 }
 
-/// Whether a service may make the call: a tpcall, or one that sets the priority of its next request.
+/// Whether a service may make the call: a tpcall, one that sets the priority of its next request, a change of the board, or a
+/// tick, which is refused to it.
 pub fn may_call(op: &Op) -> bool
     ensures { result ≡ may_call op.now }
 {
-    matches!(op, Op::Call(_) | Op::Priority(..))
+    matches!(
+        op,
+        Op::Call(_) | Op::Priority(..) | Op::Advertise(..) | Op::Unadvertise(_) | Op::Tick(_)
+    )
 }
 
 // Whether it is that, or an OP of that invocation by which a service may make a call.

@@ -58,11 +58,14 @@ impl Cause {
     }
 }
 
-// Whether a domain serves the call: a tpcall, or one that sets the priority of the next request.
+// Whether a domain serves the call: a tpcall, one that sets the priority of the next request, or one that would change the board.
 fn is_served(op: &Op) -> bool
     ensures { result ≡ is_served op.now }
 {
-    matches!(op, Op::Call(_) | Op::Priority(_, _))
+    matches!(
+        op,
+        Op::Call(_) | Op::Priority(_, _) | Op::Advertise(_, _) | Op::Unadvertise(_)
+    )
 }
 
 // The one word behind `client`.

@@ -105,7 +105,7 @@ fn read_lines(
 /// 0x20 to 0x7E, 2 a first word that is no listed one, 3 a call before any client, 4 a word that is missing, too many
 /// or not of its form, 5 a client whose word is no name, 6 one whose name an earlier client has, 7 one client more than
 /// there may be, 8 a subtype, field, value or kind that the setup doesn't take, 9 a call that is not served: all but a
-/// tpcall and the setting of a priority.
+/// tpcall, the setting of a priority, and a change of the board.
 pub fn read_upto(
     alloc: Global,
     octets: &[u8],

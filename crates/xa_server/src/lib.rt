@@ -31,7 +31,7 @@ pub mod cell {
 }
 
 pub mod events {
-    pub use xa_caller::events::{Event, StopCause};
+    pub use xa_caller::events::{Event, Evidence, StopCause};
 }
 
 pub mod held {
@@ -61,7 +61,7 @@ pub mod restart {
 }
 
 pub mod route {
-    pub use xa_caller::route::{is_same, row_for};
+    pub use xa_caller::route::{is_same, queue_named, queue_of, row_for};
 }
 
 pub mod stamp {

@@ -7,7 +7,7 @@ use Rattle.std.proofs.lemmas.List.{length-append}
 use Rattle.std.proofs.Math.Seq.{get_or-append_seam}
 use Rattle.std.proofs.lemmas.List.Elements.{All-nil, All-cons, All-head, All-tail, All-append, All-filter, All-weaker, filter-append}
 use Rattle.xa_desk.specs.xa_types.declared.call.Op.{Op}
-use Rattle.xa_desk.specs.xa_types.declared.call.Op.TheVariants.{Call, Priority}
+use Rattle.xa_desk.specs.xa_types.declared.call.Op.TheVariants.{Call, Priority, Advertise, Unadvertise, Tick}
 use Rattle.xa_desk.specs.xa_types.declared.ids.Generation.{Generation}
 use Rattle.xa_desk.specs.xa_types.declared.ids.RequestId.{RequestId}
 use Rattle.xa_desk.specs.xa_types.declared.ids.ServerId.{ServerId}
@@ -27,7 +27,7 @@ use Rattle.xa_desk.specs.xa_events.State.{caller_of}
 use Rattle.xa_desk.specs.xa_events.Homes.{of_worker, is_take_by}
 use Rattle.xa_desk.specs.xa_events.Homes.Home.{QueueHome, CallerHome}
 use Rattle.xa_desk.specs.xa_events.Local.{worker_events}
-use Rattle.xa_desk.specs.xa_events.Caller.{is_call_of, op_in, last_op}
+use Rattle.xa_desk.specs.xa_events.Caller.{is_call_of, is_client, op_in, last_op}
 use Rattle.xa_desk.specs.xa_events.Said.{is_op, reply_at}
 use Rattle.xa_desk.specs.xa_events.Server.{doing, is_busy, start_in, starts, is_gone_of, is_gone}
 use Rattle.xa_desk.specs.xa_events.Views.{ServerView, server_view}
@@ -79,10 +79,11 @@ use Rattle.xa_desk.specs.declared.stopped.Stopped.{Stopped}
 use Rattle.xa_desk.specs.declared.stopped.Stopped.TheVariants.{Here, Elsewhere}
 use Rattle.xa_desk.specs.Desks.{IsDesk, IsQueuePass, IsThere, FitsCalls, page_in, queue_page}
 use Rattle.xa_desk.specs.Serving.{IsServing, IsSentFor, IsTaken}
+use Rattle.xa_desk.proofs.OwnQueue.{no_client}
 use Rattle.xa_desk.proofs.Staying.{taken_stays}
 use Rattle.xa_calls.specs.declared.telling.Told.{Told}
 use Rattle.xa_calls.specs.declared.telling.Told.TheVariants as tells
-use Rattle.xa_calls.specs.Going.{IsReady, IsStopped, IsCall, PerformsBy}
+use Rattle.xa_calls.specs.Going.{IsReady, IsStopped, IsCallBy, PerformsBy}
 use Rattle.xa_calls.specs.Telling.{IsQuiet, NotesOne, Accepts, StoppedIn, Says, IsTold}
 use Rattle.xa_server_worker.specs.declared.working.ServerWorker.{ServerWorker}
 use Rattle.xa_server_worker.specs.Attending.{is_want, IsNewest, IsReplyTo, called_out}
@@ -149,10 +150,13 @@ want_is Elsewhere is = absurd (cc is)
 -- ---- the calls of a server
 
 -- a service may ask for what a caller may call
-pub may_be_called : (op : Op) → may_call op ≡ true → IsCall op
-may_be_called (Call ask) may = tt
-may_be_called (Priority absolute amount) may = tt
-may_be_called op may = absurd (cc may)
+pub may_be_called : (clients caller : ℕ) (op : Op) → is_client clients caller ≡ false → may_call op ≡ true → IsCallBy clients caller op
+may_be_called clients caller (Call ask) server may = tt
+may_be_called clients caller (Priority absolute amount) server may = tt
+may_be_called clients caller (Advertise service routine) server may = tt
+may_be_called clients caller (Unadvertise service) server may = tt
+may_be_called clients caller (Tick n) server may = server
+may_be_called clients caller op server may = absurd (cc may)
 
 at_length : (ops behind : List Op) (op : Op) → slice_get (ops ++ op ∷ behind) (length ops) ≡ Some op
 at_length [] behind op = refl
@@ -458,6 +462,13 @@ module _ {L T : Type 0} {d : Domain} {shows : T → StarterShows} (w : ServerWor
         let server : caller - w.desk.caller.work.clients ≡ slot.server.0 = omega (arith, number) in
         inr (and_from (nat_lt w.desk.caller.work.clients caller) (is_busy (doing (caller - w.desk.caller.work.clients) (own_of w))) (lt-ltb w.desk.caller.work.clients caller (omega (arith, number, some)))
         (ap (λ (k : ℕ). is_busy (doing k (own_of w))) server ∙ (ap is_busy (its.at.serving.stands.tables.reads.moved ∙ its.does))))
+
+    pub may_be_made : IsCallBy d.clients caller op
+    may_be_made =
+        let number = number_of its.at.serving in
+        let some = some_server slot.server.0 _ _ its.at.serving.stands.tables.worker.rule in
+        let clients : w.desk.caller.work.clients ≡ d.clients = its.at.is.clients in
+        may_be_called d.clients caller op (no_client d.clients caller (omega (arith, number, some, clients))) calling.may
 
     pub is_ready : IsReady d w.desk.caller.op w.desk
     is_ready = record { is = its.at.is; idle = its.at.serving.idle; made = refl }

@@ -1,10 +1,10 @@
-//! Runs whose services call others while they work (XATMI, tpcall): what each call of a client is told.
+//! Runs whose services call others, or change the board, while they work (XATMI, tpcall, tpadvertise and tpunadvertise): what
+//! each call of a client is told.
 use crate::gated::history_of;
 use crate::rows::none_fails;
 use crate::running::Runtime;
 use xa_program::events::Event;
 use xa_program::link::OpenGate;
-use xa_program::types::CallerId;
 
 // Three queues with a server each; those of Q1 and Q2 relay what they get.
 const CONFIG: &[u8] =
@@ -19,7 +19,14 @@ const CONFIG: &[u8] =
     [[service]]\nname = \"FAIL\"\nqueues = [\"Q3\"]\n\
     [[service]]\nname = \"DIE\"\nqueues = [\"Q3\"]\n";
 
-// The script, what is written, and how many requests the servers sent.
+// Two queues with a server each, both of which change the board as they are asked.
+const CHANGING: &[u8] = b"[[queue]]\nname = \"Q1\"\n[[queue]]\nname = \"Q2\"\n\
+    [[server]]\nname = \"S1\"\nqueue = \"Q1\"\n\
+    [[server]]\nname = \"S2\"\nqueue = \"Q2\"\n\
+    [[service]]\nname = \"ADV\"\nqueues = [\"Q1\"]\n\
+    [[service]]\nname = \"OTHER\"\nroutine = \"ADV\"\nqueues = [\"Q2\"]\n";
+
+// The script, what is written, and how many requests the servers sent, or how many changes they made.
 type Row = (&'static [u8], &'static [u8], usize);
 
 static ROWS: [Row; 9] = [
@@ -76,29 +83,83 @@ static ROWS: [Row; 9] = [
     ),
 ];
 
-// Whether the servers made so many calls that were accepted.
-fn made(history: &[Event], (_, _, requests): Row) -> bool {
-    let mut count = 0_usize;
-    for event in history {
-        if let Event::Accept(request) = event {
-            if request.by != CallerId(1) {
-                count = count.saturating_add(1);
-            }
-        }
-    }
-    count == requests
+static CHANGES: [Row; 6] = [
+    // A service comes and goes; another routine is TPEMATCH; a client changes nothing.
+    (
+        b"client a\ncall ADV text \"+ NEW ECHO\"\ncall NEW text \"x\"\ncall ADV text \"+ NEW LEN\"\n\
+        call ADV text \"- NEW\"\ncall NEW none\nadvertise X ECHO\nunadvertise ADV\n",
+        b"a 1 OK 0 octet 4f4b\na 2 OK 0 octet 78\na 3 OK 0 octet 5450454d41544348\n\
+        a 4 OK 0 octet 4f4b\na 5 TPENOENT\na 6 TPEPROTO\na 7 TPEPROTO\n",
+        2,
+    ),
+    // Each server changes the rows of its own queue: that of the other one stands, with its routine.
+    (
+        b"client a\ncall ADV text \"+ NEW ECHO\"\ncall OTHER text \"- NEW\"\n\
+        call OTHER text \"+ NEW LEN\"\ncall NEW text \"abc\"\ncall ADV text \"- NEW\"\n\
+        call NEW text \"abc\"\n",
+        b"a 1 OK 0 octet 4f4b\na 2 OK 0 octet 5450454e4f454e54\n\
+        a 3 OK 0 octet 4f4b\na 4 OK 0 octet 616263\na 5 OK 0 octet 4f4b\n\
+        a 6 OK 3 none\n",
+        3,
+    ),
+    // The same row again.
+    (
+        b"client a\ncall ADV text \"+ NEW ECHO\"\ncall ADV text \"+ NEW ECHO\"\ncall NEW none\n",
+        b"a 1 OK 0 octet 4f4b\na 2 OK 0 octet 4f4b\na 3 OK 0 none\n",
+        2,
+    ),
+    // A configured row.
+    (
+        b"client a\ncall ADV text \"- ADV\"\ncall ADV text \"- ADV\"\n",
+        b"a 1 OK 0 octet 4f4b\na 2 TPENOENT\n",
+        1,
+    ),
+    // Words that are no names.
+    (
+        b"client a\ncall ADV text \"+ .A ECHO\"\ncall ADV text \"+ NEW .B\"\ncall ADV text \"- .A\"\n",
+        b"a 1 OK 0 octet 545045494e56414c\na 2 OK 0 octet 545045494e56414c\n\
+        a 3 OK 0 octet 545045494e56414c\n",
+        0,
+    ),
+    // A text that asks for no change.
+    (
+        b"client a\ncall ADV text \"NEW\"\ncall ADV none\n",
+        b"a 1 TPESVCFAIL 2 none\na 2 TPESVCFAIL 2 none\n",
+        0,
+    ),
+];
+
+// Whether it is a request that a server sent, or a change that it made.
+fn is_of_server(event: &Event) -> bool {
+    let by = match event {
+        Event::Accept(request) => request.by,
+        Event::Advertise(row) => row.by,
+        Event::Withdraw(row) => row.by,
+        _ => return false,
+    };
+    by.0 > 1
 }
 
-fn is_made<R: Runtime>(rt: &R, row: Row) -> bool {
-    match history_of(rt, &OpenGate, CONFIG, row.0, &[row.1]) {
-        Some(history) => made(history.as_slice(), row),
+fn made(history: &[Event], calls: usize) -> bool {
+    let mut count = 0usize;
+    for event in history {
+        if is_of_server(event) {
+            count = count.saturating_add(1);
+        }
+    }
+    count == calls
+}
+
+fn is_made<R: Runtime>(rt: &R, config: &[u8], (script, wrote, calls): Row) -> bool {
+    match history_of(rt, &OpenGate, config, script, &[wrote]) {
+        Some(history) => made(history.as_slice(), calls),
         None => false,
     }
 }
 
-fn first_not_made<R: Runtime>(rt: &R) -> Option<usize> {
-    for (place, row) in ROWS.iter().enumerate() {
-        if !is_made(rt, *row) {
+fn first_not_made<R: Runtime>(rt: &R, config: &[u8], rows: &[Row]) -> Option<usize> {
+    for (place, row) in rows.iter().enumerate() {
+        if !is_made(rt, config, *row) {
             return Some(place);
         }
     }
@@ -107,5 +168,10 @@ fn first_not_made<R: Runtime>(rt: &R) -> Option<usize> {
 
 #[test]
 fn services_call(rt: HostRuntime) {
-    none_fails(&rt, first_not_made(&rt));
+    none_fails(&rt, first_not_made(&rt, CONFIG, &ROWS));
+}
+
+#[test]
+fn services_change_the_board(rt: HostRuntime) {
+    none_fails(&rt, first_not_made(&rt, CHANGING, &CHANGES));
 }

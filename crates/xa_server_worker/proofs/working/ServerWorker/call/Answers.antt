@@ -1,12 +1,17 @@
 use Rattle.std.proofs.Common.{◌∙◌, ◌+◌, ℕ, ap, sym}
 use Rattle.xa_server_worker.proofs.Lasting.{at_desk, goes_cut}
-use Rattle.xa_server_worker.proofs.Calling.{may_call_now, tells_it, starved_dies, wanted, replied_in, unsaid_dies, goes_called, halted_in}
+use Rattle.xa_server_worker.proofs.Calling.{may_call_now, may_be_made, tells_it, starved_dies, wanted, replied_in, unsaid_dies, goes_called, halted_in}
 use Rattle.xa_server_worker.proofs.working.ServerWorker.call.Goals as goal
 
 pub perform-performed-requires-clause-active : goal.perform-performed-requires-clause-active
 perform-performed-requires-clause-active g c κs within =
     let its = c.requires.calling in
     may_call_now c.args.self.now c.args.op.now its.0 c.args.life its.1 c.id-before.ensures.sound
+
+pub perform-performed-requires-clause-kind : goal.perform-performed-requires-clause-kind
+perform-performed-requires-clause-kind g c κs within =
+    let its = c.requires.calling in
+    may_be_made c.args.self.now c.args.op.now its.0 c.args.life its.1 c.id-before.ensures.sound
 
 pub reply-requires-clause-told : goal.reply-requires-clause-told
 reply-requires-clause-told g c =
