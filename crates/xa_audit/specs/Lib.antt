@@ -1,2 +1,4 @@
+pub mod Audit
+pub mod Reading
 pub mod Record
 pub mod Verdict

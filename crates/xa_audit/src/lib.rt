@@ -1,8 +1,13 @@
 //! Records of runs, and what a record comes to.
 #![tactic(auto)]
 
+mod auditing;
 mod judging;
+mod laws;
+mod reading;
 mod writing;
 
+pub use auditing::{AuditRefused, audit};
 pub use judging::{Verdict, judge};
+pub use laws::one_answer;
 pub use writing::write;

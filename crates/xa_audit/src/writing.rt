@@ -1,8 +1,9 @@
 // The record of a run, written.
 ghost use Rattle.std.specs.Prelude.{◌≡◌, ◌++◌, ◌≤◌, ◌∷◌, [], map, length, OnOk, IfOk};
-ghost use Rattle.std.specs.List.{flat_map};
-ghost use Rattle.xa_lines.specs.Line.{line_of};
-ghost use Rattle.xa_audit.specs.Record.{line, counted, config_text, record_lines, record_of};
+ghost use Rattle.std.specs.List.{All, flat_map};
+ghost use Rattle.xa_types.specs.Name.{IsName};
+ghost use Rattle.xa_lines.specs.Line.{line_of, IsEvent};
+ghost use Rattle.xa_audit.specs.Record.{line, counted, config_text, record_lines, IsRecord};
 
 use itoa::Buffer;
 use std::alloc::Global;
@@ -30,7 +31,8 @@ fn put_counted(out: &mut Vec<u8>, word: &[u8], number: usize) -> Result<(), NoMe
 }
 
 fn put_names(out: &mut Vec<u8>, names: &[Name]) -> Result<(), NoMemory>
-    ensures { OnOk result (out.new.items ≡ out.old.items ++ flat_map line names.now) }
+    ensures named { OnOk result (All IsName names.now) }
+    ensures text { OnOk result (out.new.items ≡ out.old.items ++ flat_map line names.now) }
 {
     for name in names {
         put_line(out, name.octets())?;
@@ -39,7 +41,8 @@ fn put_names(out: &mut Vec<u8>, names: &[Name]) -> Result<(), NoMemory>
 }
 
 fn put_event_line(out: &mut Vec<u8>, event: &Event) -> Result<(), NoMemory>
-    ensures { OnOk result (out.new.items ≡ out.old.items ++ line (line_of event.now)) }
+    ensures fits { OnOk result (IsEvent event.now) }
+    ensures text { OnOk result (out.new.items ≡ out.old.items ++ line (line_of event.now)) }
 {
     put_event(out, event)?;
     out.push(b'\n')?;
@@ -47,7 +50,8 @@ fn put_event_line(out: &mut Vec<u8>, event: &Event) -> Result<(), NoMemory>
 }
 
 fn put_events(out: &mut Vec<u8>, events: &[Event]) -> Result<(), NoMemory>
-    ensures { OnOk result (out.new.items ≡ out.old.items ++ flat_map line (map line_of events.now)) }
+    ensures fits { OnOk result (All IsEvent events.now) }
+    ensures text { OnOk result (out.new.items ≡ out.old.items ++ flat_map line (map line_of events.now)) }
 {
     for event in events {
         put_event_line(out, event)?;
@@ -56,7 +60,9 @@ fn put_events(out: &mut Vec<u8>, events: &[Event]) -> Result<(), NoMemory>
 }
 
 fn put_lines(out: &mut Vec<u8>, names: &[Name], history: &[Event]) -> Result<(), NoMemory>
-    ensures { OnOk result (out.new.items ≡ out.old.items ++ flat_map line (record_lines names.now history.now)) }
+    ensures named { OnOk result (All IsName names.now) }
+    ensures fits { OnOk result (All IsEvent history.now) }
+    ensures text { OnOk result (out.new.items ≡ out.old.items ++ flat_map line (record_lines names.now history.now)) }
 {
     put_counted(out, b"clients", names.len())?;
     put_names(out, names)?;
@@ -79,7 +85,7 @@ pub fn write(
     history: &[Event],
 ) -> Result<Octets, NoMemory>
     requires { length names.now ≤ 64 }
-    ensures { IfOk result (λ octets. octets ≡ record_of config.now names.now history.now) }
+    ensures { IfOk result (λ octets. IsRecord octets config.now names.now history.now) }
 {
     let mut out = Vec::new(alloc);
     put_config(&mut out, config)?;

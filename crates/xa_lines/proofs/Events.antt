@@ -73,7 +73,7 @@ event_again (events.Leave client) rest h = said_again number_16 left client.0 re
 event_again (events.Break e) rest h = said_again (both_is call_is request_are) broken ((e.by.0, e.op), e.request) rest h
 event_again (events.Priority e) rest h = said_again (both_is call_is (both_is truths_are signed_are)) prioritized ((e.by.0, e.op), (e.absolute, e.amount)) rest (h.0, (tt, h.1))
 
-event_inner : (v : Event) → IsEvent v → list_all is_word (event_words v) ≡ true
+pub event_inner : (v : Event) → IsEvent v → list_all is_word (event_words v) ≡ true
 event_inner (events.Take e) h = (both_is request_are (both_is life_is number_64)).inner (e.request, ((e.server.0, e.generation.0), e.k)) (h.0, (h.1, h.2))
 event_inner (events.End e) h = (both_is request_are (both_is life_is outcome_is)).inner (e.request, ((e.server.0, e.generation.0), e.outcome)) (h.0, (h.1, h.2))
 event_inner (events.Answer e) h = (both_is call_is (both_is request_are answer_is)).inner ((e.by.0, e.op), (e.request, e.answer)) (h.0, (h.1, h.2))

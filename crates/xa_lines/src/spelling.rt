@@ -1,9 +1,9 @@
 // Words, put behind a space.
 ghost use Rattle.std.specs.Prelude.{◌≡◌, ◌++◌, ◌∷◌, [], map, OnOk, decimal};
 ghost use Rattle.std.specs.Fmt.{signed_decimal};
-ghost use Rattle.std.specs.List.{flat_map};
-ghost use Rattle.hex.specs.Hex.{encode_lower};
-ghost use Rattle.xa_lines.specs.Line.{spaced, request_word, truth_word, mode_word, hex_word, data_words, requests_words, coded_words};
+ghost use Rattle.std.specs.List.{All, flat_map};
+ghost use Rattle.hex.specs.Hex.{encode_lower, IsBytes};
+ghost use Rattle.xa_lines.specs.Line.{spaced, request_word, truth_word, mode_word, hex_word, data_words, requests_words, coded_words, IsRequest, AreRequests, IsData, IsCoded};
 
 use itoa::Buffer;
 use xa_types::{Data, Mode, NoMemory, RequestId};
@@ -60,7 +60,8 @@ pub fn put_mode(out: &mut Vec<u8>, mode: Mode) -> Result<(), NoMemory>
 }
 
 pub fn put_request(out: &mut Vec<u8>, request: RequestId) -> Result<(), NoMemory>
-    ensures { OnOk result (out.new.items ≡ out.old.items ++ spaced (request_word request)) }
+    ensures text { OnOk result (out.new.items ≡ out.old.items ++ spaced (request_word request)) }
+    ensures fits { OnOk result (IsRequest request) }
 {
     put_number(out, u64::from(request.caller.0))?;
     out.push(b'.')?;
@@ -80,7 +81,8 @@ fn put_pairs(out: &mut Vec<u8>, octets: &[u8]) -> Result<(), NoMemory>
 }
 
 fn put_hex(out: &mut Vec<u8>, octets: &[u8]) -> Result<(), NoMemory>
-    ensures { OnOk result (out.new.items ≡ out.old.items ++ spaced (hex_word octets.now)) }
+    ensures text { OnOk result (out.new.items ≡ out.old.items ++ spaced (hex_word octets.now)) }
+    ensures fits { OnOk result (IsBytes octets.now) }
 {
     if octets.is_empty() {
         return put(out, b"-");
@@ -90,7 +92,8 @@ fn put_hex(out: &mut Vec<u8>, octets: &[u8]) -> Result<(), NoMemory>
 }
 
 pub fn put_data(out: &mut Vec<u8>, payload: &Data) -> Result<(), NoMemory>
-    ensures { OnOk result (out.new.items ≡ out.old.items ++ flat_map spaced (data_words payload.now)) }
+    ensures text { OnOk result (out.new.items ≡ out.old.items ++ flat_map spaced (data_words payload.now)) }
+    ensures fits { OnOk result (IsData payload.now) }
 {
     match payload {
         Data::Absent => put(out, b"none"),
@@ -107,14 +110,16 @@ pub fn put_data(out: &mut Vec<u8>, payload: &Data) -> Result<(), NoMemory>
 }
 
 pub fn put_coded(out: &mut Vec<u8>, code: i32, payload: &Data) -> Result<(), NoMemory>
-    ensures { OnOk result (out.new.items ≡ out.old.items ++ flat_map spaced (coded_words code payload.now)) }
+    ensures text { OnOk result (out.new.items ≡ out.old.items ++ flat_map spaced (coded_words code payload.now)) }
+    ensures fits { OnOk result (IsCoded code payload.now) }
 {
     put_signed(out, code)?;
     put_data(out, payload)
 }
 
 fn put_each(out: &mut Vec<u8>, requests: &[RequestId]) -> Result<(), NoMemory>
-    ensures { OnOk result (out.new.items ≡ out.old.items ++ flat_map spaced (map request_word requests.now)) }
+    ensures text { OnOk result (out.new.items ≡ out.old.items ++ flat_map spaced (map request_word requests.now)) }
+    ensures fits { OnOk result (All IsRequest requests.now) }
 {
     for request in requests {
         put_request(out, *request)?;
@@ -124,7 +129,8 @@ fn put_each(out: &mut Vec<u8>, requests: &[RequestId]) -> Result<(), NoMemory>
 
 /// Puts how many requests there are, and each of them.
 pub fn put_requests(out: &mut Vec<u8>, requests: &[RequestId]) -> Result<(), NoMemory>
-    ensures { OnOk result (out.new.items ≡ out.old.items ++ flat_map spaced (requests_words requests.now)) }
+    ensures text { OnOk result (out.new.items ≡ out.old.items ++ flat_map spaced (requests_words requests.now)) }
+    ensures fits { OnOk result (AreRequests requests.now) }
 {
     put_number(out, requests.len() as u64)?;
     put_each(out, requests)

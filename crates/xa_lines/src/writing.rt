@@ -1,8 +1,9 @@
 // The line of an event.
-ghost use Rattle.std.specs.Prelude.{◌≡◌, ◌++◌, ◌∷◌, [], OnOk, IfOk, decimal};
+ghost use Rattle.std.specs.Prelude.{◌≡◌, ◌^◌, ◌<◌, ◌++◌, ◌∷◌, [], OnOk, IfOk, decimal};
+ghost use Rattle.xa_types.specs.Name.{IsName};
 ghost use Rattle.std.specs.List.{flat_map};
 ghost use Rattle.xa_events.specs.declared.event.Event.TheVariants as events;
-ghost use Rattle.xa_lines.specs.Line.{spaced, joined, mode_word, data_words, line_of, event_words, IsEvent, outcome_words, cause_words, answer_words, item_words, evidence_words};
+ghost use Rattle.xa_lines.specs.Line.{spaced, joined, mode_word, data_words, line_of, event_words, IsCall, IsLife, IsData, IsOutcome, IsCause, IsAnswer, IsEvidence, IsItem, IsEvent, outcome_words, cause_words, answer_words, item_words, evidence_words};
 
 use crate::spelling::{
     put, put_coded, put_data, put_mode, put_number, put_request, put_requests, put_signed,
@@ -27,7 +28,8 @@ fn begin(out: &mut Vec<u8>, word: &[u8]) -> Result<(), NoMemory>
 
 // Puts a caller and the number of its call.
 fn put_call(out: &mut Vec<u8>, by: CallerId, op: u32) -> Result<(), NoMemory>
-    ensures { OnOk result (out.new.items ≡ out.old.items ++ flat_map spaced (decimal by.0 ∷ decimal op ∷ [])) }
+    ensures text { OnOk result (out.new.items ≡ out.old.items ++ flat_map spaced (decimal by.0 ∷ decimal op ∷ [])) }
+    ensures fits { OnOk result (IsCall by.0 op) }
 {
     put_number(out, u64::from(by.0))?;
     put_number(out, u64::from(op))
@@ -35,7 +37,8 @@ fn put_call(out: &mut Vec<u8>, by: CallerId, op: u32) -> Result<(), NoMemory>
 
 // Puts a life of a server.
 fn put_life(out: &mut Vec<u8>, server: ServerId, generation: Generation) -> Result<(), NoMemory>
-    ensures { OnOk result (out.new.items ≡ out.old.items ++ flat_map spaced (decimal server.0 ∷ decimal generation.0 ∷ [])) }
+    ensures text { OnOk result (out.new.items ≡ out.old.items ++ flat_map spaced (decimal server.0 ∷ decimal generation.0 ∷ [])) }
+    ensures fits { OnOk result (IsLife server.0 generation.0) }
 {
     put_number(out, u64::from(server.0))?;
     put_number(out, generation.0)
@@ -50,8 +53,9 @@ fn put_way(
     routine: &Name,
     priority: u8,
 ) -> Result<(), NoMemory>
-    ensures { OnOk result (out.new.items ≡ out.old.items
+    ensures text { OnOk result (out.new.items ≡ out.old.items
         ++ flat_map spaced (decimal version ∷ service.now ∷ decimal queue.0 ∷ routine.now ∷ decimal priority ∷ [])) }
+    ensures fits { OnOk result ((version < 2 ^ 64) × IsName service.now × (queue.0 < 2 ^ 16) × IsName routine.now × (priority < 2 ^ 8)) }
 {
     put_number(out, version)?;
     put(out, service.octets())?;
@@ -61,7 +65,8 @@ fn put_way(
 }
 
 fn put_advertise(out: &mut Vec<u8>, e: &Advertised) -> Result<(), NoMemory>
-    ensures { OnOk result (out.new.items ≡ out.old.items ++ joined (event_words (events.Advertise e.now))) }
+    ensures text { OnOk result (out.new.items ≡ out.old.items ++ joined (event_words (events.Advertise e.now))) }
+    ensures fits { OnOk result (IsEvent (events.Advertise e.now)) }
 {
     begin(out, b"Advertise")?;
     put_call(out, e.by, e.op)?;
@@ -72,7 +77,8 @@ fn put_advertise(out: &mut Vec<u8>, e: &Advertised) -> Result<(), NoMemory>
 }
 
 fn put_withdraw(out: &mut Vec<u8>, e: &Withdrawn) -> Result<(), NoMemory>
-    ensures { OnOk result (out.new.items ≡ out.old.items ++ joined (event_words (events.Withdraw e.now))) }
+    ensures text { OnOk result (out.new.items ≡ out.old.items ++ joined (event_words (events.Withdraw e.now))) }
+    ensures fits { OnOk result (IsEvent (events.Withdraw e.now)) }
 {
     begin(out, b"Withdraw")?;
     put_call(out, e.by, e.op)?;
@@ -83,14 +89,16 @@ fn put_withdraw(out: &mut Vec<u8>, e: &Withdrawn) -> Result<(), NoMemory>
 
 // Puts what a service is invoked for, and with what data.
 fn put_work(out: &mut Vec<u8>, mode: Mode, payload: &Data) -> Result<(), NoMemory>
-    ensures { OnOk result (out.new.items ≡ out.old.items ++ flat_map spaced (mode_word mode ∷ data_words payload.now)) }
+    ensures text { OnOk result (out.new.items ≡ out.old.items ++ flat_map spaced (mode_word mode ∷ data_words payload.now)) }
+    ensures fits { OnOk result (IsData payload.now) }
 {
     put_mode(out, mode)?;
     put_data(out, payload)
 }
 
 fn put_accept(out: &mut Vec<u8>, e: &Accepted) -> Result<(), NoMemory>
-    ensures { OnOk result (out.new.items ≡ out.old.items ++ joined (event_words (events.Accept e.now))) }
+    ensures text { OnOk result (out.new.items ≡ out.old.items ++ joined (event_words (events.Accept e.now))) }
+    ensures fits { OnOk result (IsEvent (events.Accept e.now)) }
 {
     begin(out, b"Accept")?;
     put_call(out, e.by, e.op)?;
@@ -100,7 +108,8 @@ fn put_accept(out: &mut Vec<u8>, e: &Accepted) -> Result<(), NoMemory>
 }
 
 fn put_take(out: &mut Vec<u8>, e: &Taken) -> Result<(), NoMemory>
-    ensures { OnOk result (out.new.items ≡ out.old.items ++ joined (event_words (events.Take e.now))) }
+    ensures text { OnOk result (out.new.items ≡ out.old.items ++ joined (event_words (events.Take e.now))) }
+    ensures fits { OnOk result (IsEvent (events.Take e.now)) }
 {
     begin(out, b"Take")?;
     put_request(out, e.request)?;
@@ -109,7 +118,8 @@ fn put_take(out: &mut Vec<u8>, e: &Taken) -> Result<(), NoMemory>
 }
 
 fn put_forward(out: &mut Vec<u8>, e: &Forwarded) -> Result<(), NoMemory>
-    ensures { OnOk result (out.new.items ≡ out.old.items ++ joined (event_words (events.Forward e.now))) }
+    ensures text { OnOk result (out.new.items ≡ out.old.items ++ joined (event_words (events.Forward e.now))) }
+    ensures fits { OnOk result (IsEvent (events.Forward e.now)) }
 {
     begin(out, b"Forward")?;
     put_request(out, e.request)?;
@@ -120,7 +130,8 @@ fn put_forward(out: &mut Vec<u8>, e: &Forwarded) -> Result<(), NoMemory>
 }
 
 fn put_sweep(out: &mut Vec<u8>, e: &Swept) -> Result<(), NoMemory>
-    ensures { OnOk result (out.new.items ≡ out.old.items ++ joined (event_words (events.Sweep e.now))) }
+    ensures text { OnOk result (out.new.items ≡ out.old.items ++ joined (event_words (events.Sweep e.now))) }
+    ensures fits { OnOk result (IsEvent (events.Sweep e.now)) }
 {
     begin(out, b"Sweep")?;
     put_request(out, e.request)?;
@@ -129,14 +140,16 @@ fn put_sweep(out: &mut Vec<u8>, e: &Swept) -> Result<(), NoMemory>
 
 // Puts an event that has one number.
 fn put_one(out: &mut Vec<u8>, name: &[u8], number: u16) -> Result<(), NoMemory>
-    ensures { OnOk result (out.new.items ≡ out.old.items ++ joined (name.now ∷ decimal number ∷ [])) }
+    ensures text { OnOk result (out.new.items ≡ out.old.items ++ joined (name.now ∷ decimal number ∷ [])) }
+    ensures fits { OnOk result (number < 2 ^ 16) }
 {
     begin(out, name)?;
     put_number(out, u64::from(number))
 }
 
 fn put_tick(out: &mut Vec<u8>, e: &Ticked) -> Result<(), NoMemory>
-    ensures { OnOk result (out.new.items ≡ out.old.items ++ joined (event_words (events.Tick e.entry.now))) }
+    ensures text { OnOk result (out.new.items ≡ out.old.items ++ joined (event_words (events.Tick e.entry.now))) }
+    ensures fits { OnOk result (IsEvent (events.Tick e.entry.now)) }
 {
     begin(out, b"Tick")?;
     put_call(out, e.by, e.op)?;
@@ -145,8 +158,9 @@ fn put_tick(out: &mut Vec<u8>, e: &Ticked) -> Result<(), NoMemory>
 
 // Puts a start, or one that failed.
 fn put_start(out: &mut Vec<u8>, name: &[u8], e: &Started) -> Result<(), NoMemory>
-    ensures { OnOk result (out.new.items ≡ out.old.items
+    ensures text { OnOk result (out.new.items ≡ out.old.items
         ++ joined (name.now ∷ decimal e.now.server.0 ∷ decimal e.now.generation.0 ∷ decimal e.now.tick ∷ [])) }
+    ensures fits { OnOk result (IsLife e.now.server.0 e.now.generation.0 × (e.now.tick < 2 ^ 64)) }
 {
     begin(out, name)?;
     put_life(out, e.server, e.generation)?;
@@ -154,7 +168,8 @@ fn put_start(out: &mut Vec<u8>, name: &[u8], e: &Started) -> Result<(), NoMemory
 }
 
 fn put_outcome(out: &mut Vec<u8>, outcome: &Outcome) -> Result<(), NoMemory>
-    ensures { OnOk result (out.new.items ≡ out.old.items ++ flat_map spaced (outcome_words outcome.now)) }
+    ensures text { OnOk result (out.new.items ≡ out.old.items ++ flat_map spaced (outcome_words outcome.now)) }
+    ensures fits { OnOk result (IsOutcome outcome.now) }
 {
     match outcome {
         Outcome::Returned(code, payload) => {
@@ -176,7 +191,8 @@ fn put_outcome(out: &mut Vec<u8>, outcome: &Outcome) -> Result<(), NoMemory>
 }
 
 fn put_end(out: &mut Vec<u8>, e: &Ended) -> Result<(), NoMemory>
-    ensures { OnOk result (out.new.items ≡ out.old.items ++ joined (event_words (events.End e.now))) }
+    ensures text { OnOk result (out.new.items ≡ out.old.items ++ joined (event_words (events.End e.now))) }
+    ensures fits { OnOk result (IsEvent (events.End e.now)) }
 {
     begin(out, b"End")?;
     put_request(out, e.request)?;
@@ -185,7 +201,8 @@ fn put_end(out: &mut Vec<u8>, e: &Ended) -> Result<(), NoMemory>
 }
 
 fn put_cause(out: &mut Vec<u8>, cause: StopCause) -> Result<(), NoMemory>
-    ensures { OnOk result (out.new.items ≡ out.old.items ++ flat_map spaced (cause_words cause)) }
+    ensures text { OnOk result (out.new.items ≡ out.old.items ++ flat_map spaced (cause_words cause)) }
+    ensures fits { OnOk result (IsCause cause) }
 {
     match cause {
         StopCause::Shutdown => put(out, b"Shutdown"),
@@ -203,7 +220,8 @@ fn put_cause(out: &mut Vec<u8>, cause: StopCause) -> Result<(), NoMemory>
 }
 
 fn put_stop(out: &mut Vec<u8>, e: &Stopped) -> Result<(), NoMemory>
-    ensures { OnOk result (out.new.items ≡ out.old.items ++ joined (event_words (events.Stop e.now))) }
+    ensures text { OnOk result (out.new.items ≡ out.old.items ++ joined (event_words (events.Stop e.now))) }
+    ensures fits { OnOk result (IsEvent (events.Stop e.now)) }
 {
     begin(out, b"Stop")?;
     put_life(out, e.server, e.generation)?;
@@ -211,7 +229,8 @@ fn put_stop(out: &mut Vec<u8>, e: &Stopped) -> Result<(), NoMemory>
 }
 
 fn put_reply(out: &mut Vec<u8>, answer: &Answer) -> Result<(), NoMemory>
-    ensures { OnOk result (out.new.items ≡ out.old.items ++ flat_map spaced (answer_words answer.now)) }
+    ensures text { OnOk result (out.new.items ≡ out.old.items ++ flat_map spaced (answer_words answer.now)) }
+    ensures fits { OnOk result (IsAnswer answer.now) }
 {
     match answer {
         Answer::Success(code, payload) => {
@@ -230,7 +249,8 @@ fn put_reply(out: &mut Vec<u8>, answer: &Answer) -> Result<(), NoMemory>
 }
 
 fn put_answer(out: &mut Vec<u8>, e: &Replied) -> Result<(), NoMemory>
-    ensures { OnOk result (out.new.items ≡ out.old.items ++ joined (event_words (events.Answer e.now))) }
+    ensures text { OnOk result (out.new.items ≡ out.old.items ++ joined (event_words (events.Answer e.now))) }
+    ensures fits { OnOk result (IsEvent (events.Answer e.now)) }
 {
     begin(out, b"Answer")?;
     put_call(out, e.by, e.op)?;
@@ -239,7 +259,8 @@ fn put_answer(out: &mut Vec<u8>, e: &Replied) -> Result<(), NoMemory>
 }
 
 fn put_cancel(out: &mut Vec<u8>, e: &Cancelled) -> Result<(), NoMemory>
-    ensures { OnOk result (out.new.items ≡ out.old.items ++ joined (event_words (events.Cancel e.now))) }
+    ensures text { OnOk result (out.new.items ≡ out.old.items ++ joined (event_words (events.Cancel e.now))) }
+    ensures fits { OnOk result (IsEvent (events.Cancel e.now)) }
 {
     begin(out, b"Cancel")?;
     put_call(out, e.by, e.op)?;
@@ -247,7 +268,8 @@ fn put_cancel(out: &mut Vec<u8>, e: &Cancelled) -> Result<(), NoMemory>
 }
 
 fn put_lapse(out: &mut Vec<u8>, e: &Lapsed) -> Result<(), NoMemory>
-    ensures { OnOk result (out.new.items ≡ out.old.items ++ joined (event_words (events.Lapse e.entry.now))) }
+    ensures text { OnOk result (out.new.items ≡ out.old.items ++ joined (event_words (events.Lapse e.entry.now))) }
+    ensures fits { OnOk result (IsEvent (events.Lapse e.entry.now)) }
 {
     begin(out, b"Lapse")?;
     put_call(out, e.by, e.op)?;
@@ -258,7 +280,8 @@ fn put_lapse(out: &mut Vec<u8>, e: &Lapsed) -> Result<(), NoMemory>
 }
 
 fn put_evidence(out: &mut Vec<u8>, evidence: &Evidence) -> Result<(), NoMemory>
-    ensures { OnOk result (out.new.items ≡ out.old.items ++ flat_map spaced (evidence_words evidence.now)) }
+    ensures text { OnOk result (out.new.items ≡ out.old.items ++ flat_map spaced (evidence_words evidence.now)) }
+    ensures fits { OnOk result (IsEvidence evidence.now) }
 {
     match evidence {
         Evidence::Argument => put(out, b"Argument"),
@@ -270,8 +293,8 @@ fn put_evidence(out: &mut Vec<u8>, evidence: &Evidence) -> Result<(), NoMemory>
         Evidence::Rows(many) => put_named(out, b"Rows", u64::from(*many)),
         Evidence::Clock(tick) => put_named(out, b"Clock", *tick),
         Evidence::Queue(queue, waiting) => {
-            put_named(out, b"Queue", u64::from(queue.0))?;
-            put_number(out, u64::from(*waiting))
+            put(out, b"Queue")?;
+            put_level(out, *queue, *waiting)
         }
         Evidence::Pool => put(out, b"Pool"),
         Evidence::Conversation(descriptor) => put_named(out, b"Conversation", *descriptor),
@@ -305,8 +328,18 @@ fn put_named(out: &mut Vec<u8>, word: &[u8], number: u64) -> Result<(), NoMemory
     put_number(out, number)
 }
 
+// Puts a queue, and how many waited there.
+fn put_level(out: &mut Vec<u8>, queue: QueueId, waiting: u32) -> Result<(), NoMemory>
+    ensures text { OnOk result (out.new.items ≡ out.old.items ++ flat_map spaced (decimal queue.0 ∷ decimal waiting ∷ [])) }
+    ensures fits { OnOk result ((queue.0 < 2 ^ 16) × (waiting < 2 ^ 32)) }
+{
+    put_number(out, u64::from(queue.0))?;
+    put_number(out, u64::from(waiting))
+}
+
 fn put_refuse(out: &mut Vec<u8>, e: &Refused) -> Result<(), NoMemory>
-    ensures { OnOk result (out.new.items ≡ out.old.items ++ joined (event_words (events.Refuse e.now))) }
+    ensures text { OnOk result (out.new.items ≡ out.old.items ++ joined (event_words (events.Refuse e.now))) }
+    ensures fits { OnOk result (IsEvent (events.Refuse e.now)) }
 {
     begin(out, b"Refuse")?;
     put_call(out, e.by, e.op)?;
@@ -315,7 +348,8 @@ fn put_refuse(out: &mut Vec<u8>, e: &Refused) -> Result<(), NoMemory>
 }
 
 fn put_not_yet(out: &mut Vec<u8>, e: &Unready) -> Result<(), NoMemory>
-    ensures { OnOk result (out.new.items ≡ out.old.items ++ joined (event_words (events.NotYet e.now))) }
+    ensures text { OnOk result (out.new.items ≡ out.old.items ++ joined (event_words (events.NotYet e.now))) }
+    ensures fits { OnOk result (IsEvent (events.NotYet e.now)) }
 {
     begin(out, b"NotYet")?;
     put_call(out, e.by, e.op)?;
@@ -323,7 +357,8 @@ fn put_not_yet(out: &mut Vec<u8>, e: &Unready) -> Result<(), NoMemory>
 }
 
 fn put_send(out: &mut Vec<u8>, e: &Sent) -> Result<(), NoMemory>
-    ensures { OnOk result (out.new.items ≡ out.old.items ++ joined (event_words (events.Send e.now))) }
+    ensures text { OnOk result (out.new.items ≡ out.old.items ++ joined (event_words (events.Send e.now))) }
+    ensures fits { OnOk result (IsEvent (events.Send e.now)) }
 {
     begin(out, b"Send")?;
     put_call(out, e.by, e.op)?;
@@ -333,7 +368,8 @@ fn put_send(out: &mut Vec<u8>, e: &Sent) -> Result<(), NoMemory>
 }
 
 fn put_item(out: &mut Vec<u8>, item: &Item) -> Result<(), NoMemory>
-    ensures { OnOk result (out.new.items ≡ out.old.items ++ flat_map spaced (item_words item.now)) }
+    ensures text { OnOk result (out.new.items ≡ out.old.items ++ flat_map spaced (item_words item.now)) }
+    ensures fits { OnOk result (IsItem item.now) }
 {
     match item {
         Item::Message(payload, passes) => {
@@ -350,7 +386,8 @@ fn put_item(out: &mut Vec<u8>, item: &Item) -> Result<(), NoMemory>
 }
 
 fn put_receive(out: &mut Vec<u8>, e: &Received) -> Result<(), NoMemory>
-    ensures { OnOk result (out.new.items ≡ out.old.items ++ joined (event_words (events.Receive e.now))) }
+    ensures text { OnOk result (out.new.items ≡ out.old.items ++ joined (event_words (events.Receive e.now))) }
+    ensures fits { OnOk result (IsEvent (events.Receive e.now)) }
 {
     begin(out, b"Receive")?;
     put_call(out, e.by, e.op)?;
@@ -359,7 +396,8 @@ fn put_receive(out: &mut Vec<u8>, e: &Received) -> Result<(), NoMemory>
 }
 
 fn put_break(out: &mut Vec<u8>, e: &Broken) -> Result<(), NoMemory>
-    ensures { OnOk result (out.new.items ≡ out.old.items ++ joined (event_words (events.Break e.now))) }
+    ensures text { OnOk result (out.new.items ≡ out.old.items ++ joined (event_words (events.Break e.now))) }
+    ensures fits { OnOk result (IsEvent (events.Break e.now)) }
 {
     begin(out, b"Break")?;
     put_call(out, e.by, e.op)?;
@@ -367,7 +405,8 @@ fn put_break(out: &mut Vec<u8>, e: &Broken) -> Result<(), NoMemory>
 }
 
 fn put_priority(out: &mut Vec<u8>, e: &Prioritized) -> Result<(), NoMemory>
-    ensures { OnOk result (out.new.items ≡ out.old.items ++ joined (event_words (events.Priority e.now))) }
+    ensures text { OnOk result (out.new.items ≡ out.old.items ++ joined (event_words (events.Priority e.now))) }
+    ensures fits { OnOk result (IsEvent (events.Priority e.now)) }
 {
     begin(out, b"Priority")?;
     put_call(out, e.by, e.op)?;
@@ -375,9 +414,11 @@ fn put_priority(out: &mut Vec<u8>, e: &Prioritized) -> Result<(), NoMemory>
     put_signed(out, e.amount)
 }
 
-/// Puts the line of the event at the end, without the octet that ends a line.
+/// Puts the line of the event at the end, without the octet that ends a line. What the event's fields say fits their
+/// types.
 pub fn put_event(out: &mut Vec<u8>, event: &Event) -> Result<(), NoMemory>
-    ensures { OnOk result (out.new.items ≡ out.old.items ++ line_of event.now) }
+    ensures text { OnOk result (out.new.items ≡ out.old.items ++ line_of event.now) }
+    ensures fits { OnOk result (IsEvent event.now) }
 {
     match event {
         Event::Advertise(e) => put_advertise(out, e),

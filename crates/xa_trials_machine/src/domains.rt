@@ -25,7 +25,8 @@ pub enum Domain {
     Market,
 }
 
-static ECHO: &[u8] = b"queue = [{ name = 'Q1' }]
+/// The configuration of that domain.
+pub const ECHO: &[u8] = b"queue = [{ name = 'Q1' }]
 server = [{ name = 'S1', queue = 'Q1' }]
 shape = [{ name = 'entry', fields = ['account int', 'amount long', 'memo string 16'] }]
 service = [{ name = 'ECHO', queues = ['Q1'] }]";

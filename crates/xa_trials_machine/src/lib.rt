@@ -7,6 +7,8 @@ mod domains;
 #[cfg(test)]
 mod histories;
 #[cfg(test)]
+mod records;
+#[cfg(test)]
 mod replays;
 #[cfg(test)]
 mod steps;

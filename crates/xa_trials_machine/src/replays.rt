@@ -8,9 +8,10 @@ use crate::histories::{CALLS, CHANGES, FAULTS, FORWARDS, History, LIVES, TALK_FA
 use crate::steps::{Each, Step, event_of, steps_of};
 use std::alloc::Global;
 use std::process::Abort;
+use xa_audit::{Verdict, audit, write};
 use xa_events::Event;
 use xa_machine::{Machine, ReplayRefused, replay};
-use xa_types::Setup;
+use xa_types::{Name, Octets, Setup};
 
 fn setup_of(alloc: Global, domain: Domain) -> Option<Setup>
     ensures configured { IfSome result (λ setup. is_configured setup ≡ true) }
@@ -63,6 +64,26 @@ fn ends_in_order(alloc: Global, setup: &Setup, clients: u16, events: &[Event]) -
     machine.is_final()
 }
 
+static CLIENTS: [&[u8]; 2] = [b"c1", b"c2"];
+
+/// The record of these events, with so many clients.
+pub fn written(alloc: Global, config: &[u8], clients: u16, events: &[Event]) -> Option<Octets> {
+    let mut names = Vec::new(alloc);
+    for client in CLIENTS.iter().take(usize::from(clients)) {
+        names.push(Name::read(client).ok()?).ok()?;
+    }
+    if names.len() > 64 {
+        return None;
+    }
+    write(alloc, config, &names, events).ok()
+}
+
+// What the auditor answers of that record; none where it is refused.
+fn audited(alloc: Global, config: &[u8], clients: u16, events: &[Event]) -> Option<Verdict> {
+    let octets = written(alloc, config, clients, events)?;
+    audit(alloc, octets.slice()).ok()
+}
+
 fn becomes(alloc: Global, setup: &Setup, clients: u16, events: &[Event], place: Option<u64>) -> bool
     requires { is_configured setup.now ≡ true }
 {
@@ -75,16 +96,32 @@ fn becomes(alloc: Global, setup: &Setup, clients: u16, events: &[Event], place: 
     }
 }
 
-fn is_so(alloc: Global, (domain, clients, parts, place): History) -> bool {
-    let Some(setup) = setup_of(alloc, domain) else {
-        return false;
-    };
+/// The events of the parts, one part behind the other.
+pub fn events_of(alloc: Global, parts: &[&[Step]]) -> Option<Vec<Event>> {
     let mut events = Vec::new(alloc);
     let mut are_pushed = true;
     for steps in parts {
         are_pushed &= push_all(alloc, &mut events, steps);
     }
-    are_pushed && becomes(alloc, &setup, clients, &events, place)
+    if !are_pushed {
+        return None;
+    }
+    Some(events)
+}
+
+fn is_so(alloc: Global, (domain, clients, parts, place): History) -> bool {
+    let Some(setup) = setup_of(alloc, domain) else {
+        return false;
+    };
+    let Some(events) = events_of(alloc, parts) else {
+        return false;
+    };
+    let verdict = match place {
+        None => Verdict::Run(events.len() as u64),
+        Some(place) => Verdict::At(place),
+    };
+    becomes(alloc, &setup, clients, &events, place)
+        && audited(alloc, configuration(domain), clients, &events) == Some(verdict)
 }
 
 fn first_not_so(alloc: Global, histories: &[History]) -> Option<usize> {
@@ -97,7 +134,7 @@ fn first_not_so(alloc: Global, histories: &[History]) -> Option<usize> {
 }
 
 // Fails the test where there is a row that isn't as it should be, and says its place.
-fn none_fails<R: Abort>(rt: &R, failed: Option<usize>) {
+pub fn none_fails<R: Abort>(rt: &R, failed: Option<usize>) {
     if let Some(place) = failed {
         panic!(rt; "row {place}")
     }
