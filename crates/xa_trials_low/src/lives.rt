@@ -35,7 +35,7 @@ const OP: &[u8] = b"XA\x01\x03\0\0\0\x06\0\0\0\x01\x0a\0\0\0\0\x05";
 
 const LATER_OP: &[u8] = b"XA\x01\x03\0\0\0\x06\0\0\0\x02\x0a\0\0\0\0\x05";
 
-const UNSERVED: &[u8] = b"XA\x01\x03\0\0\0\x03\0\0\0\x01\x0c\x01A";
+const UNSERVED: &[u8] = b"XA\x01\x03\0\0\0\x09\0\0\0\x01\x05\0\0\0\0\0\0\0\x01";
 
 // What is left of the pipes of a life that ended.
 #[derive(Clone, Copy, PartialEq, Eq)]

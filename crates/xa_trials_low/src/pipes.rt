@@ -103,7 +103,11 @@ static SAID: [Said; 25] = [
         Err(StopCause::OutOfTurn(0x03, 1)),
     ),
     (
-        &[READY, NEXT, b"XA\x01\x03\0\0\0\x05\0\0\0\x01\x0d\0\0\0\x01"],
+        &[
+            READY,
+            NEXT,
+            b"XA\x01\x03\0\0\0\x09\0\0\0\x01\x05\0\0\0\0\0\0\0\x01",
+        ],
         0,
         Err(StopCause::OutOfTurn(0x03, 1)),
     ),
