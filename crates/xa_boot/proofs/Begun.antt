@@ -15,6 +15,7 @@ use Rattle.xa_client_worker.specs.xa_held.declared.kept_queue.QueueNote.{QueueNo
 use Rattle.xa_client_worker.specs.xa_caller.declared.cargo.Filling.{Filling}
 use Rattle.xa_client_worker.specs.xa_desk.declared.domain.Domain.{Domain}
 use Rattle.xa_boot.specs.declared.staff.Staff.{Staff}
+use Rattle.xa_boot.specs.Booting.{IsClockFor}
 use Rattle.xa_boot.specs.Opening.{IsBoot, opening}
 use Rattle.xa_boot.specs.Supplies.{limit_of, IsBoardFor, IsRoom}
 use Rattle.xa_boot.specs.Locking.{EachPair, IsLocked}
@@ -78,9 +79,9 @@ module _ (d : Domain) where
 
   -- all workers are left
   pub all_left : (s : Staff) (limits : List ℕ) → IsBoot d.setup s.own → d.booted.0 ≡ length s.own → s.version ≡ length s.own → EachNumbered (IsBoardFor d.board (opening d.setup s.own)) 0 s.boards.items → length s.boards.items ≡ s.left → length s.readers.items ≡ s.left
-      → length s.rooms.items ≡ s.left → All (IsRoom (length d.setup.queues)) s.rooms.items → length d.queues.items ≡ length d.setup.queues → EachPair (IsLocked d.setup d.clients d.cells d.booted s.left) 0 d.queues.items s.queues.items
+      → EachNumbered (IsClockFor d.clock) 0 s.clocks.items → length s.clocks.items ≡ s.left → length s.rooms.items ≡ s.left → All (IsRoom (length d.setup.queues)) s.rooms.items → length d.queues.items ≡ length d.setup.queues → EachPair (IsLocked d.setup d.clients d.cells d.booted s.left) 0 d.queues.items s.queues.items
       → EachNumbered (λ worker limit. limit ≡ limit_of d.clients worker) 0 limits → length limits ≡ s.left → AreSeats d.cells limits s.seats.items → AreLeft d s.left s
-  all_left s limits boot booted version boards each_board readers rooms each_room queues locked limited each_limit seats =
+  all_left s limits boot booted version boards each_board readers clocks each_clock rooms each_room queues locked limited each_limit seats =
       let same = pair-length (IsLocked d.setup d.clients d.cells d.booted s.left) 0 d.queues.items s.queues.items locked in
       let counted = ap length seats.counts in
       let mapped = length-map s.seats.items (λ (x : Seat Filling). x.count) in
@@ -91,6 +92,7 @@ module _ (d : Domain) where
           readers = readers;
           boards = each_board;
           queues = λ k passes within. let inside : k < length d.queues.items = omega (arith, within, same) in (locked_at s.left s.queues.items locked k (some_of k d.queues.items inside) passes inside).count;
+          clocks = each_clock;
           rooms = rooms;
           each_room = subst (λ n. All (IsRoom n) s.rooms.items) (sym queues ∙ same) each_room;
         };
@@ -102,5 +104,6 @@ module _ (d : Domain) where
           boards = boards;
           count = sym same;
           queues = queues_for s.left s.queues.items locked;
+          clocks = clocks;
         };
       }

@@ -11,6 +11,7 @@ use Rattle.xa_client_worker.specs.xa_desk.declared.domain.Domain.{Domain}
 use Rattle.xa_client_worker.specs.xa_desk.Desks.{IsThere}
 use Rattle.xa_boot.specs.declared.staff.Staff.{Staff}
 use Rattle.xa_boot.specs.declared.staff.Post.{Post}
+use Rattle.xa_boot.specs.Booting.{IsClockFor}
 use Rattle.xa_boot.specs.Opening.{IsBoot, opening}
 use Rattle.xa_boot.specs.Supplies.{IsBoardFor, IsRoom, QueuePass}
 use Rattle.xa_boot.specs.Staffing.{IsSeatFor, IsQueueFor, IsPost, IsFull, IsStaff, AreTaken, Hires}
@@ -44,7 +45,7 @@ last-numbered P old new x left is count each =
 
 module _ (old new : Staff) (post : Post) (room : Vec QueuePass Global) (left : new.left + 1 ≡ old.left) (own : new.own ≡ old.own) (version : new.version ≡ old.version) (full : IsFull old)
     (seats : old.seats.items ≡ new.seats.items ++ post.seat ∷ []) (readers : old.readers.items ≡ new.readers.items ++ post.reader ∷ []) (boards : old.boards.items ≡ new.boards.items ++ post.board ∷ [])
-    (rooms : old.rooms.items ≡ new.rooms.items ++ room ∷ []) (taken : AreTaken (length old.queues.items) old.queues.items new.queues.items post.queues.items) where
+    (clocks : old.clocks.items ≡ new.clocks.items ++ post.clock ∷ []) (rooms : old.rooms.items ≡ new.rooms.items ++ room ∷ []) (taken : AreTaken (length old.queues.items) old.queues.items new.queues.items post.queues.items) where
   count : length new.queues.items ≡ length old.queues.items
   count = taken.count
 
@@ -60,6 +61,7 @@ module _ (old new : Staff) (post : Post) (room : Vec QueuePass Global) (left : n
     readers = last-length old.readers.items new.readers.items post.reader new.left old.left readers full.readers left;
     boards = last-length old.boards.items new.boards.items post.board new.left old.left boards full.boards left;
     queues = λ k d within. each_left k d (omega (arith, within, count));
+    clocks = last-length old.clocks.items new.clocks.items post.clock new.left old.left clocks full.clocks left;
     rooms = last-length old.rooms.items new.rooms.items room new.left old.left rooms full.rooms left;
     each_room = subst (λ n. All (IsRoom n) new.rooms.items) (sym count) (All-front (IsRoom (length old.queues.items)) new.rooms.items (room ∷ []) (subst (All (IsRoom (length old.queues.items))) rooms full.each_room));
   }
@@ -70,6 +72,9 @@ module _ (old new : Staff) (post : Post) (room : Vec QueuePass Global) (left : n
 
     its_board : EachNumbered (IsBoardFor d.board (opening d.setup old.own)) 0 new.boards.items × IsBoardFor d.board (opening d.setup old.own) new.left post.board
     its_board = last-numbered (IsBoardFor d.board (opening d.setup old.own)) old.boards.items new.boards.items post.board new.left boards is_full.boards is.boards
+
+    its_clock : EachNumbered (IsClockFor d.clock) 0 new.clocks.items × IsClockFor d.clock new.left post.clock
+    its_clock = last-numbered (IsClockFor d.clock) old.clocks.items new.clocks.items post.clock new.left clocks is_full.clocks is.clocks
 
     its_passes : (k : ℕ) (default : Passes) → k < length d.queues.items → (pass : Pass) → (get_or old.queues.items k default).items ≡ (get_or new.queues.items k default).items ++ pass ∷ []
         → EachNumbered (IsQueueFor d k) 0 (get_or new.queues.items k default).items × IsQueueFor d k new.left pass
@@ -88,6 +93,7 @@ module _ (old new : Staff) (post : Post) (room : Vec QueuePass Global) (left : n
               let inside : k < length old.queues.items = omega (arith, within, all) in
               let default = some_of k old.queues.items inside in
               there-weaker (λ pass. (get_or old.queues.items k default).items ≡ (get_or new.queues.items k default).items ++ pass ∷ []) (IsQueueFor d k new.left) (λ pass last. (its_passes k default within pass last).1) (get_or post.queues.items k None) (taken.each k default inside);
+          clock = its_clock.1;
         }
 
     is_staff : IsStaff d new
@@ -103,6 +109,7 @@ module _ (old new : Staff) (post : Post) (room : Vec QueuePass Global) (left : n
           queues = λ k default within.
               let inside : k < length old.queues.items = omega (arith, within, all) in
               there-fact (λ pass. (get_or old.queues.items k default).items ≡ (get_or new.queues.items k default).items ++ pass ∷ []) (EachNumbered (IsQueueFor d k) 0 (get_or new.queues.items k default).items) (λ pass last. (its_passes k default within pass last).0) (get_or post.queues.items k None) (taken.each k default inside);
+          clocks = its_clock.0;
         }
 
   pub hired : Hires old new post

@@ -4,9 +4,11 @@ use Rattle.std.specs.Prelude.{slice_index_or}
 use Rattle.std.specs.List.{All, filter}
 use Rattle.std.proofs.lemmas.List.Elements.{All-nil}
 use Rattle.xa_client_worker.specs.xa_events.Board.{boot, published}
+use Rattle.xa_client_worker.specs.xa_events.Caller.{ticks, tick_floor}
 use Rattle.xa_client_worker.specs.xa_events.Homes.{home_of}
-use Rattle.xa_client_worker.specs.xa_events.Homes.Home.{BoardHome, QueueHome}
+use Rattle.xa_client_worker.specs.xa_events.Homes.Home.{BoardHome, QueueHome, ClockHome}
 use Rattle.xa_client_worker.specs.xa_stamp.declared.home.Stamped.{Stamped}
+use Rattle.xa_client_worker.specs.xa_lock.declared.makers.Made.{Made}
 use Rattle.xa_client_worker.specs.xa_lock.declared.pass.LockPass.{LockPass}
 use Rattle.xa_client_worker.specs.xa_lock.declared.pass.Page.{Page}
 use Rattle.xa_client_worker.specs.xa_lock.Known.{known as page_of}
@@ -34,10 +36,10 @@ use Rattle.xa_client_worker.specs.xa_desk.declared.domain.Domain.{Domain}
 use Rattle.xa_client_worker.specs.xa_desk.declared.desk.Desk.{Desk}
 use Rattle.xa_client_worker.specs.xa_desk.Made.{IsMade}
 use Rattle.xa_client_worker.specs.xa_desk.Whole.{Whole, IsKnown}
-use Rattle.xa_client_worker.specs.xa_desk.Desks.{IsDesk, IsBoardPass, IsQueuePass, IsGrounded, IsThere, IsAmong, page_in, queue_page}
+use Rattle.xa_client_worker.specs.xa_desk.Desks.{IsDesk, IsBoardPass, IsQueuePass, IsClockPass, IsGrounded, IsThere, IsAmong, page_in, queue_page}
 use Rattle.xa_boot.specs.declared.closer.Closer.{Closer}
 use Rattle.xa_boot.specs.declared.staff.Post.{Post}
-use Rattle.xa_boot.specs.Booting.{IsNewCloser, work_of}
+use Rattle.xa_boot.specs.Booting.{IsClockFor, IsNewCloser, work_of}
 use Rattle.xa_boot.specs.Opening.{IsBoot, opening}
 use Rattle.xa_boot.specs.Supplies.{IsBoardFor, QueuePass}
 use Rattle.xa_boot.specs.Staffing.{IsQueueFor, IsPost, IsNewDesk}
@@ -105,7 +107,27 @@ abbrev pub caller_at : Domain → ℕ → ℕ → Seat Filling → CallerState
 caller_at d worker least seat = record { work = record { setup = d.setup; clients = d.clients; id = record { 0 = worker }; stamp = d.booted; own = []; room = 0 }; seat = seat; op = 0; sent = 0; least = least; priority = None; phase = Idle }
 
 abbrev pub desk_at : CallerState → Post → Desk
-desk_at caller post = record { caller = caller; reader = post.reader; board = Some post.board; queues = post.queues }
+desk_at caller post = record { caller = caller; reader = post.reader; board = Some post.board; queues = post.queues; clock = Some post.clock }
+
+-- who noted nothing read no tick
+floor_none : (clients worker tick : ℕ) → tick_floor clients worker [] ≤ tick
+unfolding ticks
+floor_none clients worker tick = omega arith
+
+clock_own : (worker : ℕ) → noted_in (first_own [] worker) ≡ []
+clock_own zero = refl
+clock_own (suc k) = refl
+
+clock_pass : (d : Domain) (worker least : ℕ) (post : Post) → IsClockFor d.clock worker post.clock → IsClockPass d (caller_at d worker least post.seat).work post.clock
+clock_pass d worker least post it =
+    let seen : (page_of post.clock).seen ≡ [] = ap (λ (p : Page Made). p.seen) it.page in
+    record {
+      lock = it.lock_is;
+      maker = ap (λ (p : Page Made). p.maker) it.page;
+      own = ap (λ (p : Page Made). noted_in p.own) it.page ∙ clock_own worker;
+      reached = subst (λ (l : List Made). All (λ (x : Stamped). x.stamp.0 ≤ d.booted.0) (noted_in l)) (sym seen) (All-nil (λ (x : Stamped). x.stamp.0 ≤ d.booted.0));
+      floor = floor_none d.clients worker _;
+    }
 
 module _ (d : Domain) (own : List Stamped) (k : ℕ) (post : Post) (least : ℕ) (is : IsBoot d.setup own) (its : IsPost d own (suc k) post) (reached : d.booted.0 ≡ length own) (version : least ≡ length own) where
   abbrev new : Desk
@@ -134,6 +156,7 @@ module _ (d : Domain) (own : List Stamped) (k : ℕ) (post : Post) (least : ℕ)
         least = omega (arith, version, whole, seen);
         count = its.count;
         queues = λ n within. there-weaker (IsQueueFor d n (suc k)) (IsQueuePass d new.caller.work n) (λ pass it. queue_pass d new.caller.work n (suc k) pass it refl refl) (slice_index_or post.queues.items n None) (its.queues n within);
+        clock = clock_pass d (suc k) least post its.clock;
         made = All-nil (λ (x : Stamped). IsMade x.event);
         among = All-nil (λ (x : Stamped). IsAmong (length d.queues.items) (home_of d.setup d.clients x.event));
         filled = none_filled;
@@ -155,9 +178,9 @@ new_desk d own (suc k) post caller least some is its reached version same = subs
 
 -- ---- the domain itself
 
-pub new_closer : (d : Domain) (own : Own) (post : Post) → IsBoot d.setup own → IsPost d own 0 post → d.booted.0 ≡ length own → IsNewCloser d (record { seat = post.seat; board = Some post.board; queues = post.queues; own = own; seen = d.booted; halt = None })
+pub new_closer : (d : Domain) (own : Own) (post : Post) → IsBoot d.setup own → IsPost d own 0 post → d.booted.0 ≡ length own → IsNewCloser d (record { seat = post.seat; board = Some post.board; queues = post.queues; clock = Some post.clock; own = own; seen = d.booted; halt = None })
 new_closer d own post is its reached =
-    let closer : Closer = record { seat = post.seat; board = Some post.board; queues = post.queues; own = own; seen = d.booted; halt = None } in
+    let closer : Closer = record { seat = post.seat; board = Some post.board; queues = post.queues; clock = Some post.clock; own = own; seen = d.booted; halt = None } in
     let work : WorkState = work_of d closer in
     let bound = is.bound in
     let page = its.board.page in
@@ -169,6 +192,7 @@ new_closer d own post is its reached =
       first = ap (λ (p : Page BoardNote). p.seen) page ∙ sym (ap (λ (p : Page BoardNote). p.own) page);
       count = its.count;
       queues = λ k within. there-weaker (IsQueueFor d k 0) (IsQueuePass d work k) (λ pass it. queue_pass d work k 0 pass it refl (none_on_queue d.setup own is d.clients (k + 1))) (slice_index_or post.queues.items k None) (its.queues k within);
+      clock = its.clock;
       work = is_work d.setup own is d.clients;
       boots = all_boots d.setup own is;
       reached = subst (λ n. All (λ (x : Stamped). x.stamp.0 ≤ n) own) (sym reached) (all_reached d.setup own is);

@@ -8,8 +8,11 @@ use Rattle.xa_client_worker.specs.xa_events.declared.event.Event.TheVariants.{Ad
 use Rattle.xa_client_worker.specs.xa_events.Words.{EachNumbered}
 use Rattle.xa_client_worker.specs.xa_stamp.declared.home.Stamped.{Stamped}
 use Rattle.xa_client_worker.specs.xa_lock.declared.guarded.Guarded.{Guarded}
-use Rattle.xa_client_worker.specs.xa_lock.Known.{passes_of}
-use Rattle.xa_client_worker.specs.xa_lock.Pages.{StartsWith}
+use Rattle.xa_client_worker.specs.xa_lock.declared.makers.Made.{Made}
+use Rattle.xa_client_worker.specs.xa_lock.declared.pass.LockPass.{LockPass}
+use Rattle.xa_client_worker.specs.xa_lock.Known.{known as page_of, IsPassOf, passes_of}
+use Rattle.xa_client_worker.specs.xa_lock.Pages.{StartsWith, first_page}
+use Rattle.xa_client_worker.specs.xa_ticks.Clock.{ClockState}
 use Rattle.xa_client_worker.specs.xa_worker.Ending.{workers_of}
 use Rattle.xa_client_worker.specs.xa_cell.Known.{known, IsSeatOf, IsNew, callers_of}
 use Rattle.xa_client_worker.specs.xa_held.declared.kept_queue.KeptQueue.{KeptQueue}
@@ -38,7 +41,12 @@ abbrev pub IsBoots : Event → Type 0
 IsBoots (Advertise a) = (a.by.0 ≡ 0) × (a.op ≡ 0)
 IsBoots _ = ⊥
 
--- the domain itself behind the boot: it noted the boot's events on the board, up to its stamp, and at no queue anything
+-- the maker's pass of a clock that wasn't moved
+pub record IsClockFor (lock : Guarded ClockState Made) (maker : ℕ) (pass : LockPass Made) : Type 0 where
+  pub lock_is : IsPassOf lock pass
+  pub page : page_of pass ≡ first_page maker []
+
+-- the domain itself behind the boot: it noted the boot's events on the board, up to its stamp, and nothing at any queue, nor did it see the clock
 pub record IsNewCloser (d : Domain) (closer : Closer) : Type 0 where
   pub seat : IsSeatOf d.cells closer.seat
   pub fresh : IsNew closer.seat.first closer.seat.count (known closer.seat)
@@ -46,6 +54,7 @@ pub record IsNewCloser (d : Domain) (closer : Closer) : Type 0 where
   pub first : (page_in closer.board).seen ≡ (page_in closer.board).own
   pub count : length closer.queues.items ≡ length d.queues.items
   pub queues : (k : ℕ) → k < length d.queues.items → IsThere (IsQueuePass d (work_of d closer) k) (slice_index_or closer.queues.items k None)
+  pub clock : IsThere (IsClockFor d.clock 0) closer.clock
   pub work : IsWorkOf d.setup d.clients 0 closer.own
   pub boots : All (λ (x : Stamped). IsBoots x.event) closer.own
   pub reached : All (λ (x : Stamped). x.stamp.0 ≤ closer.seen.0) closer.own
@@ -71,6 +80,7 @@ pub record IsNewServer {L T : Type 0} (d : Domain) (shows : T → StarterShows) 
 pub record IsDealt (d : Domain) : Type 0 where
   pub board : passes_of d.board ≡ workers_of d.setup d.clients
   pub queues : All (λ (queue : Guarded (KeptQueue Filling) (QueueNote Filling)). passes_of queue ≡ workers_of d.setup d.clients) d.queues.items
+  pub clock : passes_of d.clock ≡ workers_of d.setup d.clients
   pub cells : callers_of d.cells ≡ workers_of d.setup d.clients
 
 -- the domain was booted by that setup, with so many clients, and each server has its starter

@@ -17,6 +17,7 @@ pub use Rattle.xa_client_worker.specs.xa_queue
 pub use Rattle.xa_client_worker.specs.xa_restart
 pub use Rattle.xa_client_worker.specs.xa_server
 pub use Rattle.xa_client_worker.specs.xa_board
+pub use Rattle.xa_client_worker.specs.xa_ticks
 pub use Rattle.xa_client_worker.specs.xa_held
 pub use Rattle.xa_client_worker.specs.xa_link
 pub use Rattle.xa_client_worker.specs.xa_pipe

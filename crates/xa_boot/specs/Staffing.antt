@@ -22,6 +22,7 @@ use Rattle.xa_client_worker.specs.xa_desk.declared.desk.Desk.{Desk}
 use Rattle.xa_client_worker.specs.xa_desk.Desks.{IsDesk, IsSettingOf, IsThere, queue_page}
 use Rattle.xa_boot.specs.declared.staff.Staff.{Staff}
 use Rattle.xa_boot.specs.declared.staff.Post.{Post}
+use Rattle.xa_boot.specs.Booting.{IsClockFor}
 use Rattle.xa_boot.specs.Opening.{IsBoot, opening}
 use Rattle.xa_boot.specs.Supplies.{limit_of, IsBoardFor, IsRoom, QueuePass}
 
@@ -44,6 +45,7 @@ pub record IsPost (d : Domain) (own : List Stamped) (worker : ℕ) (post : Post)
   pub board : IsBoardFor d.board (opening d.setup own) worker post.board
   pub count : length post.queues.items ≡ length d.queues.items
   pub queues : (k : ℕ) → k < length d.queues.items → IsThere (IsQueueFor d k worker) (slice_index_or post.queues.items k None)
+  pub clock : IsClockFor d.clock worker post.clock
 
 -- of each there is one for each worker that is left
 pub record IsFull (s : Staff) : Type 0 where
@@ -51,6 +53,7 @@ pub record IsFull (s : Staff) : Type 0 where
   pub readers : length s.readers.items ≡ s.left
   pub boards : length s.boards.items ≡ s.left
   pub queues : All (λ (passes : Vec (LockPass (QueueNote Filling)) Global). length passes.items ≡ s.left) s.queues.items
+  pub clocks : length s.clocks.items ≡ s.left
   pub rooms : length s.rooms.items ≡ s.left
   pub each_room : All (IsRoom (length s.queues.items)) s.rooms.items
 
@@ -63,6 +66,7 @@ pub record IsStaff (d : Domain) (s : Staff) : Type 0 where
   pub boards : EachNumbered (IsBoardFor d.board (opening d.setup s.own)) 0 s.boards.items
   pub count : length s.queues.items ≡ length d.queues.items
   pub queues : (k : ℕ) (default : Vec (LockPass (QueueNote Filling)) Global) → k < length d.queues.items → EachNumbered (IsQueueFor d k) 0 (slice_index_or s.queues.items k default).items
+  pub clocks : EachNumbered (IsClockFor d.clock) 0 s.clocks.items
 
 -- the last of each of the first n of these was taken
 pub record AreTaken (n : ℕ) (old new : List (Vec (LockPass (QueueNote Filling)) Global)) (taken : List QueuePass) : Type 0 where

@@ -18,7 +18,9 @@ use Rattle.xa_client_worker.specs.xa_held.declared.kept_queue.QueueNote.{QueueNo
 use Rattle.xa_client_worker.specs.xa_caller.declared.cargo.Filling.{Filling}
 use Rattle.xa_client_worker.specs.xa_restart.Rule.{RestartState}
 use Rattle.xa_boot.specs.declared.boards.OpenBoard.{OpenBoard}
+use Rattle.xa_boot.specs.declared.clocks.OpenClock.{OpenClock}
 use Rattle.xa_boot.specs.declared.rooms.Supplies.{Supplies}
+use Rattle.xa_boot.specs.Booting.{IsClockFor}
 use Rattle.xa_boot.specs.Opening.{IsBoot, opening}
 
 -- how many cells a worker has: one the domain itself, which makes no call, and the others one for each descriptor
@@ -45,6 +47,12 @@ pub record IsOpenBoard (setup : Setup) (workers : ℕ) (b : OpenBoard) : Type 0 
   pub readers : length b.readers.items ≡ workers
   pub passes : EachNumbered (IsBoardFor b.lock (opening setup b.own)) 0 b.passes.items
 
+-- the clock that wasn't moved, with a pass for each of so many workers
+pub record IsOpenClock (workers : ℕ) (c : OpenClock) : Type 0 where
+  pub all : passes_of c.lock ≡ workers
+  pub count : length c.passes.items ≡ workers
+  pub passes : EachNumbered (IsClockFor c.lock) 0 c.passes.items
+
 -- a worker's pass of a queue, where it is
 abbrev pub QueuePass : Type 0
 QueuePass = Option (LockPass (QueueNote Filling))
@@ -60,5 +68,6 @@ pub record AreSupplies (setup : Setup) (clients : ℕ) (s : Supplies) : Type 0 w
   pub limits : EachNumbered (λ worker limit. limit ≡ limit_of clients worker) 0 s.limits.items
   pub each_limit : length s.limits.items ≡ workers_of setup clients
   pub lives : s.lives.items ≡ map restarts_of setup.servers
+  pub clock : IsOpenClock (workers_of setup clients) s.clock
   pub count : length s.rooms.items ≡ workers_of setup clients
   pub rooms : All (IsRoom (length setup.queues)) s.rooms.items

@@ -2,7 +2,7 @@
 use xa_client_worker::caller::Filling;
 use xa_client_worker::cell::Seat;
 use xa_client_worker::held::{BoardNote, QueueNote};
-use xa_client_worker::lock::LockPass;
+use xa_client_worker::lock::{LockPass, Made};
 use xa_client_worker::types::Stamp;
 use xa_client_worker::work::{Halt, Own};
 
@@ -12,6 +12,7 @@ pub struct Closer {
     pub seat: Seat<Filling>,
     pub board: Option<LockPass<BoardNote>>,
     pub queues: Vec<Option<LockPass<QueueNote<Filling>>>>,
+    pub clock: Option<LockPass<Made>>,
     pub own: Own,
     pub seen: Stamp,
     pub halt: Option<Halt>,

@@ -7,6 +7,7 @@ ghost use Rattle.xa_boot.specs.Locking.{AreLocked};
 ghost use Rattle.xa_boot.specs.Founding.{AreSeats, IsFounded};
 
 use crate::boards::{OpenBoard, open_board};
+use crate::clocks::OpenClock;
 use crate::locking::{Locked, lock_queues};
 use crate::rooms::{Supplies, workers_of};
 use crate::staff::Staff;
@@ -48,8 +49,13 @@ fn assemble(
         waits,
         limits: _,
         lives,
+        clock,
         rooms,
     } = supplies;
+    let OpenClock {
+        lock: clock,
+        passes: clocks,
+    } = clock;
     let OpenBoard {
         lock,
         passes,
@@ -70,6 +76,7 @@ fn assemble(
         cells,
         board: lock,
         queues,
+        clock,
         waits,
         halt: HaltWord::new(),
     };
@@ -81,6 +88,7 @@ fn assemble(
         readers,
         boards: passes,
         queues: dealt,
+        clocks,
         rooms,
     };
     Founded {

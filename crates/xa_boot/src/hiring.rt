@@ -111,6 +111,7 @@ pub(crate) fn hire_closer(domain: &Domain, mut staff: Staff) -> Closer
         reader: _,
         board,
         queues,
+        clock,
     } = staff.next();
     let Staff {
         left: _,
@@ -120,6 +121,7 @@ pub(crate) fn hire_closer(domain: &Domain, mut staff: Staff) -> Closer
         readers: _,
         boards: _,
         queues: _,
+        clocks: _,
         rooms: _,
     } = staff;
     seats.destroy_empty();
@@ -127,6 +129,7 @@ pub(crate) fn hire_closer(domain: &Domain, mut staff: Staff) -> Closer
         seat,
         board: Some(board),
         queues,
+        clock: Some(clock),
         own,
         seen: domain.booted,
         halt: None,

@@ -4,6 +4,7 @@
 mod advertising;
 mod boards;
 mod booting;
+mod clocks;
 mod closer;
 mod founding;
 mod hiring;

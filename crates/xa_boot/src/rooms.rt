@@ -6,6 +6,7 @@ ghost use Rattle.xa_client_worker.specs.xa_events.Words.{EachNumbered};
 ghost use Rattle.xa_client_worker.specs.xa_worker.Ending.{workers_of};
 ghost use Rattle.xa_boot.specs.Supplies.{limit_of, restarts_of, IsRoom, AreSupplies};
 
+use crate::clocks::{OpenClock, open_clock};
 use crossbeam_utils::sync::EventCount;
 use std::alloc::Global;
 use std::sync::atomic::AtomicU64;
@@ -25,14 +26,15 @@ const SERVER_CELLS: u32 = 16;
 /// A worker's right to enter a queue.
 pub type QueuePass = LockPass<QueueNote<Filling>>;
 
-/// The shapes, where workers sleep, how many cells each worker has, the starts of each server, and for each worker room for
-/// its passes of the queues.
+/// The shapes, where workers sleep, how many cells each worker has, the starts of each server, the clock under its lock, and
+/// for each worker room for its passes of the queues.
 #[derive(Drop)]
 pub struct Supplies {
     pub shapes: Shapes,
     pub waits: Waits,
     pub limits: Vec<u32>,
     pub lives: Vec<Lives>,
+    pub clock: OpenClock,
     pub rooms: Vec<Vec<Option<QueuePass>>>,
 }
 
@@ -117,6 +119,7 @@ impl Supplies {
             waits: waits(alloc, queues, workers)?,
             limits: limits(alloc, clients, workers)?,
             lives: lives_of(alloc, setup)?,
+            clock: open_clock(alloc, workers)?,
             rooms: rooms(alloc, workers, queues)?,
         })
     }

@@ -11,7 +11,7 @@ use xa_client_worker::caller::{Caller, Filling};
 use xa_client_worker::cell::Seat;
 use xa_client_worker::desk::{Desk, Domain};
 use xa_client_worker::held::BoardNote;
-use xa_client_worker::lock::LockPass;
+use xa_client_worker::lock::{LockPass, Made};
 use xa_client_worker::types::CallerId;
 use xa_client_worker::work::{Own, Work};
 
@@ -25,6 +25,7 @@ pub struct Staff {
     pub readers: Vec<Reader>,
     pub boards: Vec<LockPass<BoardNote>>,
     pub queues: Vec<Vec<QueuePass>>,
+    pub clocks: Vec<LockPass<Made>>,
     pub rooms: Vec<Vec<Option<QueuePass>>>,
 }
 
@@ -34,6 +35,7 @@ pub struct Post {
     pub reader: Reader,
     pub board: LockPass<BoardNote>,
     pub queues: Vec<Option<QueuePass>>,
+    pub clock: LockPass<Made>,
 }
 
 pub(crate) fn last_of<X>(items: &mut Vec<X>) -> X
@@ -75,6 +77,7 @@ impl Staff {
             reader: last_of(&mut self.readers),
             board: last_of(&mut self.boards),
             queues: last_passes(&mut self.queues, room),
+            clock: last_of(&mut self.clocks),
         }
     }
 
@@ -90,6 +93,7 @@ impl Staff {
             reader,
             board,
             queues,
+            clock,
         } = self.next();
         let id = CallerId(self.left);
         let work = Work::new(alloc, &domain.setup, domain.clients, id, domain.booted);
@@ -98,6 +102,7 @@ impl Staff {
             reader,
             board: Some(board),
             queues,
+            clock: Some(clock),
         }
     }
 }

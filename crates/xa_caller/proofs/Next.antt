@@ -39,7 +39,7 @@ use Rattle.xa_caller.specs.declared.phase.Open.{Open}
 use Rattle.xa_caller.specs.declared.phase.Phase.TheVariants.{Idle, Sent}
 use Rattle.xa_caller.specs.Phases.{just_in, open_in}
 use Rattle.xa_caller.specs.Caller.{CallerState, IsSound, MayCall}
-use Rattle.xa_caller.specs.Changes.{IsChangeBy}
+use Rattle.xa_caller.specs.Changes.{IsChangeBy, tick_of}
 
 -- a caller that may make a call is active
 pub is_active_now : (c : CallerState) → IsSound c → MayCall c → is_active c.work.clients c.work.id.0 (theirs c.work) ≡ true
@@ -205,6 +205,10 @@ pub changes_next : (c : CallerState) → IsSound c → is_serving c.work.clients
 changes_next c sound serves op version (Advertise a) next is = record { its = ap (λ (id : CallerId). id.0) is.0; met = inr (by_server c sound serves a.by a.op a.queue.0 (is.1 ∙ next) is.0 is.2) }
 changes_next c sound serves op version (Withdraw w) next is = record { its = ap (λ (id : CallerId). id.0) is.0; met = inr (by_server c sound serves w.by w.op w.queue.0 (is.1 ∙ next) is.0 is.2) }
 changes_next c sound serves op version _ next is = absurd is
+
+-- a client moves the clock on
+pub ticks_next : (c : CallerState) → IsSound c → is_client c.work.clients c.work.id.0 ≡ true → (op tick : ℕ) → op ≡ c.op + 1 → IsNext c.work (tick_of c.work.id op tick)
+ticks_next c sound client op tick next = record { its = refl; met = record { call = next_call c sound (inl client) op next; client = client } }
 
 -- it stands on the board, and not at its worker's own home
 pub change_aside : (c : CallerState) (op version : ℕ) (e : Event) → IsChangeBy c op version e → at_home c.work.setup c.work.clients (CallerHome c.work.id.0) e ≡ false

@@ -42,7 +42,7 @@ use Rattle.xa_caller.specs.declared.phase.Draft.{Draft}
 use Rattle.xa_caller.specs.declared.phase.Phase.TheVariants.{Prepared, Lost}
 use Rattle.xa_caller.specs.declared.outcomes.Stop.{Stop as StopOf}
 use Rattle.xa_caller.specs.declared.outcomes.Stop.TheVariants.{Refused, Halt}
-use Rattle.xa_caller.specs.Changes.{TurnsDown, StopsAs, IsChangeBy}
+use Rattle.xa_caller.specs.Changes.{TurnsDown, StopsAs, IsChangeBy, tick_of}
 use Rattle.xa_types.specs.declared.stamp.Stamp.{Stamp}
 use Rattle.xa_caller.specs.Caller.{CallerState, Reads, view_of}
 
@@ -216,6 +216,27 @@ reads_changed s stamp op version (Withdraw x) is next recent idle reads =
     (subst (λ (n : ℕ). Reads w.setup (caller_after w.clients w.id.0 (Withdraw x) (view_of w)) n s.sent version s.priority s.phase) number
     (reads_withdrawn w.setup w.clients w.id.0 x (view_of w) s.op s.sent s.least version s.priority s.phase by (omega (arith, number, next)) is.3 recent idle reads))
 reads_changed s stamp op version _ is next recent idle reads = absurd is
+
+-- its call moved the clock on
+pub reads_ticked : (s : CallerState) (stamp : Stamp) (op tick : ℕ) → 0 < op → s.phase ≡ Idle → Reads s.work.setup (view_of s.work) s.op s.sent s.least s.priority s.phase
+    → Reads s.work.setup (view_of (noted (record { stamp = stamp; event = tick_of s.work.id op tick }) s.work)) op s.sent s.least s.priority s.phase
+reads_ticked s stamp op tick above idle r =
+    let w : WorkState = s.work in
+    let e : Event = tick_of w.id op tick in
+    let is_call = is_numbered w.id.0 w.id.0 op refl above in
+    let view = view_of w in
+    subst (λ (v : CallerView). Reads w.setup v op s.sent s.least s.priority s.phase) (sym (view-more w (record { stamp = stamp; event = e }) refl))
+    (record {
+      called = ap (λ b. op_of (newer b e view.called)) is_call;
+      just = ap (λ b. accepted_in (newer b e view.called)) is_call ∙ sym (ap just_in idle);
+      accepted = r.accepted;
+      descriptors = r.descriptors;
+      floor = r.floor;
+      stands = r.stands;
+      stays = r.stays;
+      set = r.set;
+      unconnected = r.unconnected;
+    })
 
 -- one that stands at the server's queue
 pub reads_aside : (setup : Setup) (clients worker : ℕ) (e : Event) (view : CallerView) (op n least : ℕ) (priority : Option (Bool × ℤ)) (phase : Phase) → IsAtQueue e → Reads setup view op n least priority phase → Reads setup (caller_after clients worker e view) op n least priority phase

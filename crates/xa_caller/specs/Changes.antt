@@ -12,7 +12,7 @@ use Rattle.xa_types.specs.declared.row.Row.{Row}
 use Rattle.xa_types.specs.Found.{FoundRows}
 use Rattle.xa_types.specs.Kind.{kind_of, is_accepted}
 use Rattle.xa_events.specs.declared.event.Event.{Event}
-use Rattle.xa_events.specs.declared.event.Event.TheVariants.{Advertise, Withdraw, Accept, Answer, Refuse, Leave, Priority}
+use Rattle.xa_events.specs.declared.event.Event.TheVariants.{Advertise, Withdraw, Accept, Answer, Refuse, Leave, Priority, Tick}
 use Rattle.xa_events.specs.declared.event.Evidence.{Evidence}
 use Rattle.xa_events.specs.declared.event.Evidence.TheVariants.{Version, Cells}
 use Rattle.xa_types.specs.declared.setup.Setup.{Setup}
@@ -131,6 +131,13 @@ IsChangeBy c op version e = ⊥
 -- its call changed the board
 abbrev pub changed_by : Stamp → ℕ → ℕ → Event → CallerState → CallerState
 changed_by stamp op version event c = record c { work = noted (record { stamp = stamp; event = event }) c.work; op = op; least = version }
+
+-- its call moved the clock on to that tick
+abbrev pub tick_of : CallerId → ℕ → ℕ → Event
+tick_of by op tick = Tick (record { by = by; op = op; now = tick })
+
+abbrev pub ticked_by : Stamp → ℕ → ℕ → CallerState → CallerState
+ticked_by stamp op tick c = record c { work = noted (record { stamp = stamp; event = tick_of c.work.id op tick }) c.work; op = op }
 
 -- ---- sent
 

@@ -5,7 +5,7 @@ ghost use Rattle.xa_types.specs.Configured.{is_configured};
 ghost use Rattle.xa_events.specs.Calls.{is_invalid_call};
 ghost use Rattle.xa_events.specs.Cases.{ShowsItself, IsOwnEvidence};
 ghost use Rattle.xa_events.specs.Board.{boot};
-ghost use Rattle.xa_events.specs.Caller.{version_in, descriptor_limit, is_serving};
+ghost use Rattle.xa_events.specs.Caller.{version_in, descriptor_limit, is_client, is_serving};
 ghost use Rattle.xa_events.specs.Homes.Home.{CallerHome};
 ghost use Rattle.xa_events.specs.Said.{is_op};
 ghost use Rattle.xa_events.specs.Words.{count};
@@ -25,7 +25,7 @@ ghost use Rattle.xa_worker.specs.Work.{HaltsAt, seeing, theirs};
 ghost use Rattle.xa_stamp.specs.Home.{last_stamp, Rises};
 ghost use Rattle.xa_worker.specs.Crew.{no_stamp, stands_at};
 ghost use Rattle.xa_cell.specs.Places.{OpenAre};
-ghost use Rattle.xa_caller.specs.Changes.{FillsNoMore, IsChangeBy, changed_by};
+ghost use Rattle.xa_caller.specs.Changes.{FillsNoMore, IsChangeBy, changed_by, ticked_by};
 ghost use Rattle.xa_caller.specs.Phases.{places_in};
 
 use crate::asking::stop;
@@ -39,7 +39,7 @@ use std::marker::Model;
 use std::mem;
 use std::snapshot::Snapshot;
 use xa_cell::{Cells, Look, Seat, Ticket};
-use xa_events::{Accepted, Event, Evidence, Prioritized, Refused, Replied};
+use xa_events::{Accepted, Event, Evidence, Prioritized, Refused, Replied, Ticked};
 use xa_held::Invocation;
 use xa_queue::Entry;
 use xa_route::priority;
@@ -528,6 +528,21 @@ impl Caller {
         self.work.noted(stamp, event);
         self.op = op;
         self.least = version;
+    }
+
+    /// Its call moved the clock on to that tick, which was noted with that stamp.
+    pub fn ticked(&mut self, op: u32, now: u64, stamp: Stamp)
+        requires client { is_client self.old.work.clients self.old.work.id.0 ≡ true }
+        requires idle { self.old.phase ≡ phases.Idle }
+        requires turn { op ≡ self.old.op + 1 }
+        requires later { self.old.work.stamp.0 < stamp.0 }
+        requires bound { stamp.0 ≤ 2 ^ 63 }
+        ensures { self.new ≡ ticked_by stamp op now self.old }
+    {
+        let by = self.work.id();
+        let event = Event::Tick(Ticked { by, op, now });
+        self.work.noted(stamp, Snapshot::of(&event));
+        self.op = op;
     }
 
     /// Looks for the answer to its request, and is told it where it has come. Where the cell was filled without an answer, since

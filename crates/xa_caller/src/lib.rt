@@ -41,7 +41,7 @@ pub mod held {
 }
 
 pub mod lock {
-    pub use xa_lock::{Guarded, Held, LockPass};
+    pub use xa_lock::{Guarded, Held, LockPass, Made};
 }
 
 pub mod queue {

@@ -1,8 +1,7 @@
--- A call by which the board or the clock would change.
+-- A call by which the board would change.
 use Rattle.std.proofs.Common.{◌≡◌, ℕ, ◌<◌, true, List, [], ◌∷◌, ◌++◌, Option, Some, None, inl, inr, refl, sym, ◌∙◌, ap, subst}
 use Rattle.std.specs.Prelude.{IfSome}
 use Rattle.xa_desk.specs.xa_types.declared.call.Op.{Op}
-use Rattle.xa_desk.specs.xa_types.declared.call.Op.TheVariants.{Call, Priority, Advertise as AdvertiseOp, Unadvertise as UnadvertiseOp}
 use Rattle.xa_desk.specs.xa_types.declared.fault.Fault.{Fault}
 use Rattle.xa_desk.specs.xa_types.declared.fault.Fault.TheVariants.{Proto, Inval, Match, Limit, NoEnt}
 use Rattle.xa_desk.specs.xa_types.declared.ids.CallerId.{CallerId}
@@ -24,8 +23,9 @@ use Rattle.xa_desk.specs.Advertising.{HasSeen, IsChangeRefusal, ChangesAs, Moves
 use Rattle.xa_desk.specs.Looks.{LookShowed}
 use Rattle.xa_desk.specs.Steps.{FitsOp}
 use Rattle.xa_calls.specs.Resting.{NotedOn, RestsOn, SawFull, full_shown}
-use Rattle.xa_calls.specs.Going.{IsSame, FillsNone, PerformsBy, IsCall, IsCallBy}
-use Rattle.xa_calls.specs.Telling.{IsQuiet, NotesOne, Closes, Changes, IsTold, told_by_error}
+use Rattle.xa_calls.specs.Going.{IsSame, FillsNone, PerformsBy}
+use Rattle.xa_calls.specs.Telling.{IsQuiet, NotesOne, Closes, Changes, IsTold, told_by_error, told_of}
+use Rattle.xa_calls.specs.declared.telling.Told.TheVariants as tells
 use Rattle.xa_calls.proofs.Noting.{its_op, told_closed, told_changed, may_on}
 use Rattle.xa_calls.proofs.Resting.{noted_one, noted_none, refused_noted, same_by}
 use Rattle.xa_calls.proofs.Seating.{seat_fills}
@@ -101,7 +101,7 @@ module _ (d : Domain) (op : ℕ) (old new : Desk) where
   no_names NoEnt NoRow is = (tt, tt, refl, refl)
   no_names _ _ is = absurd is
 
-  module _ (mid : CallerState) (seen : HasSeen mid old.caller) (fault : Fault) (evidence : Evidence) (stamp : Stamp) (refuses : Refuses op fault evidence stamp new.caller mid) (is : IsChangeRefusal fault evidence) where
+  module _ (mid : CallerState) (seen : HasSeen mid old.caller) (fault : Fault) (evidence : Evidence) (stamp : Stamp) (refuses : Refuses op fault evidence stamp new.caller mid) (names : IfSome (version_in evidence) (LookShowed old new) × IfSome (full_shown evidence) (SawFull d old new)) where
     -- but for what it saw, the caller was as before
     pub record Before : Type 0 where
       pub id : mid.work.id ≡ old.caller.work.id
@@ -118,45 +118,43 @@ module _ (d : Domain) (op : ℕ) (old new : Desk) where
     before : Before
     before = before_by seen
 
-    refused_left : Left
+    pub refused_left : Left
     refused_left = record {
       same = same_by old new _ (ap (λ (c : CallerState). c.work) refuses.made) before.id before.clients before.room;
       fills = seat_fills old new (ap (λ (c : CallerState). c.seat) refuses.made ∙ before.seat);
       noted = subst (λ (xs : List Stamped). NotedOn (LookShowed old new) (SawFull d old new) xs new.caller.work.own) before.own
-          (refused_noted (LookShowed old new) (SawFull d old new) op fault evidence stamp mid new.caller (no_names fault evidence is).0 (no_names fault evidence is).1 refuses);
+          (refused_noted (LookShowed old new) (SawFull d old new) op fault evidence stamp mid new.caller names.0 names.1 refuses);
       idle = ap (λ (c : CallerState). c.phase) refuses.made ∙ before.phase;
     }
 
-    abbrev refused_one : 0 < op → NotesOne op Closes old new
-    refused_one above = record {
-      noted = record { stamp = stamp; event = refused op fault evidence mid };
-      own = ap (λ (c : CallerState). c.work.own) refuses.made ∙ ap (λ (xs : List Stamped). xs ++ record { stamp = stamp; event = refused op fault evidence mid } ∷ []) before.own;
-      its = its_op mid.work.id.0 old.caller.work.id.0 op (ap (λ (i : CallerId). i.0) before.id) above;
-      shows = ((no_names fault evidence is).2, (no_names fault evidence is).3);
-    }
+    pub refused_one : (P : Event → List Event → Type 0) → P (refused op fault evidence mid) (theirs old.caller.work) → 0 < op → (one : NotesOne op P old new) × (one.noted.event ≡ refused op fault evidence mid)
+    refused_one P holds above = (
+      record {
+        noted = record { stamp = stamp; event = refused op fault evidence mid };
+        own = ap (λ (c : CallerState). c.work.own) refuses.made ∙ ap (λ (xs : List Stamped). xs ++ record { stamp = stamp; event = refused op fault evidence mid } ∷ []) before.own;
+        its = its_op mid.work.id.0 old.caller.work.id.0 op (ap (λ (i : CallerId). i.0) before.id) above;
+        shows = holds;
+      },
+      refl,
+    )
 
   -- ---- either
 
   pub change_left : (told : Option Fault) → ChangesAs op told new.caller old.caller → Left
   change_left None (stamp, version, event, by, made) = changed_left stamp version event by made
-  change_left (Some fault) (mid, seen, evidence, stamp, told) = refused_left mid seen fault evidence stamp told.0 told.1
+  change_left (Some fault) (mid, seen, evidence, stamp, told) = let names = no_names fault evidence told.1 in refused_left mid seen fault evidence stamp told.0 (names.0, names.1)
+
+  refusal_one : (mid : CallerState) → HasSeen mid old.caller → (fault : Fault) (evidence : Evidence) (stamp : Stamp) → Refuses op fault evidence stamp new.caller mid → IsChangeRefusal fault evidence → 0 < op → (one : NotesOne op Closes old new) × (told_of one.noted.event ≡ tells.Fault fault)
+  refusal_one mid seen fault evidence stamp refuses is above = let names = no_names fault evidence is in let one = refused_one mid seen fault evidence stamp refuses (names.0, names.1) Closes (names.2, names.3) above in (one.0, ap told_of one.1)
 
   pub change_told : (told : Option Fault) → 0 < op → ChangesAs op told new.caller old.caller → IsSame old new → IsTold (told_by_error told) op old new
   change_told None above (stamp, version, event, by, made) same = told_changed op old new same (changed_one stamp version event by made above)
-  change_told (Some fault) above (mid, seen, evidence, stamp, told) same = told_closed (told_by_error (Some fault)) op old new same (refused_one mid seen fault evidence stamp told.0 told.1 above) refl
+  change_told (Some fault) above (mid, seen, evidence, stamp, told) same = let one = refusal_one mid seen fault evidence stamp told.0 told.1 above in told_closed (told_by_error (Some fault)) op old new same one.0 (sym one.1)
 
   pub change_active : (told : Option Fault) → 0 < op → ChangesAs op told new.caller old.caller → IsSame old new → MayCall old.caller → MayCall new.caller
   change_active None above (stamp, version, event, by, made) same = may_on op Changes old new same (changed_one stamp version event by made above)
-  change_active (Some fault) above (mid, seen, evidence, stamp, told) same = may_on op Closes old new same (refused_one mid seen fault evidence stamp told.0 told.1 above)
+  change_active (Some fault) above (mid, seen, evidence, stamp, told) same = may_on op Closes old new same (refusal_one mid seen fault evidence stamp told.0 told.1 above).0
 
   -- the worker went on by it
   pub change_goes : (change : Op) → MovesAtBoard d old new → FitsOp d op change old new → Left → PerformsBy d op change old new
   change_goes change moves fits left = record { leads = moves.leads; fits = fits; same = left.same; fills = left.fills; board = moves.board; looked = left.noted }
-
--- what any caller may call
-pub is_call_by : (clients caller : ℕ) (op : Op) → IsCall op → IsCallBy clients caller op
-is_call_by clients caller (Call ask) is = tt
-is_call_by clients caller (Priority absolute amount) is = tt
-is_call_by clients caller (AdvertiseOp service routine) is = tt
-is_call_by clients caller (UnadvertiseOp service) is = tt
-is_call_by clients caller op is = absurd is

@@ -4,3 +4,4 @@ pub mod Going
 pub mod Noting
 pub mod Trying
 pub mod Changed
+pub mod Ticked

@@ -14,11 +14,11 @@ use Rattle.xa_desk.specs.xa_types.declared.setup.Setup.{Setup}
 use Rattle.xa_desk.specs.xa_types.declared.reply.Reply.TheVariants as replies
 use Rattle.xa_desk.specs.xa_events.declared.event.Doing.{Doing}
 use Rattle.xa_desk.specs.xa_events.declared.event.Event.{Event}
-use Rattle.xa_desk.specs.xa_events.declared.event.Event.TheVariants.{Advertise, Withdraw, Accept, Answer, Refuse, Priority, Take, Forward, Start, StartFailed, End, Stop as StopOf}
+use Rattle.xa_desk.specs.xa_events.declared.event.Event.TheVariants.{Advertise, Withdraw, Tick, Accept, Answer, Refuse, Priority, Take, Forward, Start, StartFailed, End, Stop as StopOf}
 use Rattle.xa_desk.specs.xa_events.declared.event.Evidence.{Evidence}
 use Rattle.xa_desk.specs.xa_events.declared.event.Evidence.TheVariants.{Argument, Version, Cells, AllDown, Queue}
 use Rattle.xa_desk.specs.xa_events.Answers.{answer_to}
-use Rattle.xa_desk.specs.xa_events.Caller.{is_serving, is_call_of, op_in, last_op, version_in, tick_of, tick_in}
+use Rattle.xa_desk.specs.xa_events.Caller.{is_client, is_serving, is_call_of, op_in, last_op, version_in, tick_of, tick_in}
 use Rattle.xa_desk.specs.xa_events.Homes.{worker_of, home_of, same_home}
 use Rattle.xa_desk.specs.xa_events.Homes.Home.{CallerHome}
 use Rattle.xa_desk.specs.xa_events.Said.{is_op, reply_at, reply_shown_by, refusal_reply}
@@ -52,10 +52,10 @@ use Rattle.xa_desk.specs.declared.stopped.Stopped.TheVariants as ends
 use Rattle.xa_calls.specs.declared.sending.Tried.{Tried}
 use Rattle.xa_calls.specs.declared.sending.Tried.TheVariants as attempts
 use Rattle.xa_calls.specs.declared.telling.Told.{Told}
-use Rattle.xa_calls.specs.declared.telling.Told.TheVariants.{Done}
+use Rattle.xa_calls.specs.declared.telling.Told.TheVariants.{Done, Now, Fault as Failed}
 use Rattle.xa_calls.specs.Going.{IsSame, tried_by, refused_by, told_by as looked_by}
 use Rattle.xa_calls.specs.Sending.{IsItsOwn}
-use Rattle.xa_calls.specs.Telling.{IsQuiet, NotesOne, Accepts, Closes, Changes, NotesCall, TriedNotes, LookNotes, IsNoWant, StoppedIn, told_of, Says, IsTold}
+use Rattle.xa_calls.specs.Telling.{IsQuiet, NotesOne, Accepts, Closes, Changes, NotesCall, TriedNotes, LookNotes, IsNoWant, StoppedIn, Ticks, RefusesWith, told_of, Says, IsNow, IsTold}
 
 -- ---- an event of a call
 
@@ -163,6 +163,9 @@ says_told told n old new same one tells =
     subst (λ (t : Told). Says t n new.caller.work.id.0 (theirs new.caller.work)) (sym tells)
     (says_by new.caller.work.id.0 n one.noted.event (theirs old.caller.work) (theirs new.caller.work) (its_still n Closes old new same one) one.shows (theirs_one n Closes old new same one))
 
+abbrev IsServer : Desk → Type 0
+IsServer desk = is_client desk.caller.work.clients desk.caller.work.id.0 ≡ false
+
 -- no such event names a tick
 abbrev IsTickless : Desk → Event → Type 0
 IsTickless desk e = tick_in desk.caller.work.clients desk.caller.work.id.0 e ≡ None
@@ -178,21 +181,30 @@ accepts_tickless clients caller (Accept a) is = refl
 accepts_tickless clients caller e is = absurd (cc is)
 
 -- one event is all of the call
-told_one : (told : Told) (n : ℕ) (P : Event → List Event → Type 0) (old new : Desk) → IsSame old new → (one : NotesOne n P old new) → IsTickless old one.noted.event → Says told n new.caller.work.id.0 (theirs new.caller.work) → IsTold told n old new
-told_one told n P old new same one tickless says = record {
+told_one : (told : Told) (n : ℕ) (P : Event → List Event → Type 0) (old new : Desk) → IsSame old new → (one : NotesOne n P old new) → (IsServer old → IsTickless old one.noted.event) → (IsServer old → IsNow told → ⊥) → Says told n new.caller.work.id.0 (theirs new.caller.work) → IsTold told n old new
+told_one told n P old new same one tickless clock says = record {
   more = one.noted.event ∷ [];
   noted = theirs_one n P old new (same.id, same.clients) one;
   added = one.noted ∷ [];
   own = one.own;
   events = refl;
   call = one.its;
-  ticks = All-cons (IsTickless old) one.noted.event [] tickless (All-nil (IsTickless old));
+  ticks = λ server. All-cons (IsTickless old) one.noted.event [] (tickless server) (All-nil (IsTickless old));
+  clock = clock;
   says = says;
 }
 
+told_no_tick : (e : Event) → IsNow (told_of e) → ⊥
+told_no_tick (Refuse r) is = is
+told_no_tick (Answer a) is = is
+told_no_tick e is = is
+
+no_tick : (told : Told) (e : Event) → told ≡ told_of e → IsNow told → ⊥
+no_tick told e tells is = told_no_tick e (subst IsNow tells is)
+
 pub told_closed : (told : Told) (n : ℕ) (old new : Desk) → IsSame old new → (one : NotesOne n Closes old new) → told ≡ told_of one.noted.event → IsTold told n old new
 told_closed told n old new same one tells =
-    told_one told n Closes old new same one (closes_tickless old.caller.work.clients old.caller.work.id.0 one.noted.event (theirs old.caller.work) one.shows) (says_told told n old new (same.id, same.clients) one tells)
+    told_one told n Closes old new same one (λ server. closes_tickless old.caller.work.clients old.caller.work.id.0 one.noted.event (theirs old.caller.work) one.shows) (λ server. no_tick told one.noted.event tells) (says_told told n old new (same.id, same.clients) one tells)
 
 changes_done : (clients caller : ℕ) (e : Event) (past : List Event) → Changes e past → (tick_in clients caller e ≡ None) × (reply_shown_by e past ≡ replies.Done)
 changes_done clients caller (Advertise a) past changes = (refl, refl)
@@ -206,7 +218,7 @@ told_changed n old new same one =
     let past = theirs old.caller.work in
     let caller : ℕ = new.caller.work.id.0 in
     let done = changes_done old.caller.work.clients old.caller.work.id.0 one.noted.event past one.shows in
-    told_one Done n Changes old new same one done.0 (ap (λ es. reply_at es caller n) (theirs_one n Changes old new on one) ∙ newest_told caller n one.noted.event past (its_still n Changes old new on one) ∙ done.1)
+    told_one Done n Changes old new same one (λ server. done.0) (λ server is. is) (ap (λ es. reply_at es caller n) (theirs_one n Changes old new on one) ∙ newest_told caller n one.noted.event past (its_still n Changes old new on one) ∙ done.1)
 
 pub told_call : (told : Told) (n : ℕ) (old new : Desk) → IsSame old new → TellsNewest told new → NotesCall n old new → IsTold told n old new
 told_call told n old new same tells (inl one) = told_closed told n old new same one (tells_one told n old new (same.id, same.clients) tells one)
@@ -219,10 +231,37 @@ told_call told n old new same tells (inr (mid, is, first, one)) =
       own = one.own ∙ ap (λ (xs : List Stamped). xs ++ one.noted ∷ []) first.own ∙ append_assoc old.caller.work.own (first.noted ∷ []) (one.noted ∷ []);
       events = refl;
       call = (subst (λ (i : CallerId). is_op i.0 n one.noted.event ≡ true) is.id one.its, closes_no_accept one.noted.event (theirs mid.caller.work) one.shows, first.its, first.shows);
-      ticks = All-cons (IsTickless old) one.noted.event (first.noted.event ∷ []) (closes_tickless old.caller.work.clients old.caller.work.id.0 one.noted.event (theirs mid.caller.work) one.shows)
+      ticks = λ server. All-cons (IsTickless old) one.noted.event (first.noted.event ∷ []) (closes_tickless old.caller.work.clients old.caller.work.id.0 one.noted.event (theirs mid.caller.work) one.shows)
           (All-cons (IsTickless old) first.noted.event [] (accepts_tickless old.caller.work.clients old.caller.work.id.0 first.noted.event first.shows) (All-nil (IsTickless old)));
+      clock = λ server. no_tick told one.noted.event (tells_one told n mid new on tells one);
       says = says_told told n mid new on one (tells_one told n mid new on tells one);
     }
+
+-- a client moved the clock on
+pub told_ticked : (n tick : ℕ) (old new : Desk) → IsSame old new → is_client old.caller.work.clients old.caller.work.id.0 ≡ true → NotesOne n (Ticks tick) old new → IsTold (Now tick) n old new
+told_ticked n tick old new same client one =
+    let on : IsOf old new = (same.id, same.clients) in
+    let past = theirs old.caller.work in
+    let caller : ℕ = new.caller.work.id.0 in
+    told_one (Now tick) n (Ticks tick) old new same one (λ server. absurd (cc (sym server ∙ client))) (λ server. absurd (cc (sym server ∙ client)))
+    (ap (λ es. reply_at es caller n) (theirs_one n (Ticks tick) old new on one) ∙ newest_told caller n one.noted.event past (its_still n (Ticks tick) old new on one) ∙ shown one.noted.event past one.shows)
+  where
+    shown : (e : Event) (past : List Event) → Ticks tick e past → reply_shown_by e past ≡ replies.Now tick
+    shown (Tick t) past is = ap (λ (k : ℕ). replies.Now k) is
+    shown e past is = absurd is
+
+-- or its tick was refused; a server's by no tick
+pub told_stopped : (n : ℕ) (fault : Fault) (old new : Desk) → IsSame old new → (one : NotesOne n (RefusesWith fault) old new) → (IsServer old → IsTickless old one.noted.event) → IsTold (Failed fault) n old new
+told_stopped n fault old new same one tickless =
+    let on : IsOf old new = (same.id, same.clients) in
+    let past = theirs old.caller.work in
+    let caller : ℕ = new.caller.work.id.0 in
+    told_one (Failed fault) n (RefusesWith fault) old new same one tickless (λ server is. is)
+    (ap (λ es. reply_at es caller n) (theirs_one n (RefusesWith fault) old new on one) ∙ newest_told caller n one.noted.event past (its_still n (RefusesWith fault) old new on one) ∙ shown one.noted.event past one.shows)
+  where
+    shown : (e : Event) (past : List Event) → RefusesWith fault e past → reply_shown_by e past ≡ replies.Fault fault
+    shown (Refuse r) past is = is
+    shown e past is = absurd is
 
 -- ---- by the steps of a caller
 

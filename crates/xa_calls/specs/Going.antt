@@ -4,7 +4,6 @@ use Rattle.xa_desk.specs.xa_types.declared.call.Ask.{Ask}
 use Rattle.xa_desk.specs.xa_types.declared.call.Op.{Op}
 use Rattle.xa_desk.specs.xa_types.declared.call.Op.TheVariants.{Call, Priority, Advertise, Unadvertise, Tick}
 use Rattle.xa_desk.specs.xa_types.declared.ids.QueueId.{QueueId}
-use Rattle.xa_desk.specs.xa_events.Caller.{is_client}
 use Rattle.xa_desk.specs.xa_lock.Pages.{StartsWith}
 use Rattle.xa_desk.specs.xa_cell.Changes.{looked}
 use Rattle.xa_desk.specs.xa_cell.Known.{known}
@@ -130,15 +129,11 @@ refused_by (stops.Halt halt) = Err (ends.Here halt)
 
 -- ---- its calls
 
--- a tpcall, a call that sets the priority of the next request, or one that would change the board
+-- a tpcall, a call that sets the priority of the next request, or one that would change the board or the clock
 abbrev pub IsCall : Op → Type 0
 IsCall (Call ask) = Unit {0}
 IsCall (Priority absolute amount) = Unit {0}
 IsCall (Advertise service routine) = Unit {0}
 IsCall (Unadvertise service) = Unit {0}
+IsCall (Tick n) = Unit {0}
 IsCall op = ⊥
-
--- that, or a tick of a server, which is refused
-abbrev pub IsCallBy : ℕ → ℕ → Op → Type 0
-IsCallBy clients caller (Tick n) = is_client clients caller ≡ false
-IsCallBy clients caller op = IsCall op

@@ -4,9 +4,9 @@ use Rattle.std.specs.List.{All}
 use Rattle.xa_desk.specs.xa_types.declared.fault.Fault.{Fault}
 use Rattle.xa_desk.specs.xa_types.declared.reply.Reply.TheVariants as replies
 use Rattle.xa_desk.specs.xa_events.declared.event.Event.{Event}
-use Rattle.xa_desk.specs.xa_events.declared.event.Event.TheVariants.{Advertise, Withdraw, Answer, Refuse, Priority}
+use Rattle.xa_desk.specs.xa_events.declared.event.Event.TheVariants.{Advertise, Withdraw, Answer, Refuse, Priority, Tick}
 use Rattle.xa_desk.specs.xa_events.declared.event.Replied.{Replied}
-use Rattle.xa_desk.specs.xa_events.Caller.{last_op, tick_of, tick_in}
+use Rattle.xa_desk.specs.xa_events.Caller.{last_op, tick_of, tick_in, is_client}
 use Rattle.xa_desk.specs.xa_events.Said.{is_op, reply_at, refusal_reply}
 use Rattle.xa_desk.specs.xa_frame.Spelling.{IsAnswer}
 use Rattle.xa_desk.specs.xa_stamp.declared.home.Stamped.{Stamped}
@@ -78,6 +78,16 @@ Changes (Advertise a) before = Unit {0}
 Changes (Withdraw w) before = Unit {0}
 Changes e before = ⊥
 
+-- its call moved the clock on to that tick
+abbrev pub Ticks : ℕ → Event → List Event → Type 0
+Ticks tick (Tick t) before = t.now ≡ tick
+Ticks tick e before = ⊥
+
+-- its tick was refused with that error
+abbrev pub RefusesWith : Fault → Event → List Event → Type 0
+RefusesWith fault (Refuse r) before = refusal_reply r.fault r.evidence ≡ replies.Fault fault
+RefusesWith fault e before = ⊥
+
 -- the whole call was noted
 abbrev pub NotesCall : ℕ → Desk → Desk → Type 0
 NotesCall op old new = NotesOne op Closes old new ⊎ ((mid : Desk) × IsSame old mid × NotesOne op Accepts old mid × NotesOne op Closes mid new)
@@ -94,6 +104,10 @@ told_of (Refuse r) = tells.Fault r.fault
 told_of (Answer a) = tells.Answered
 told_of e = tells.Done
 
+abbrev pub told_by_clock : Result ℕ Fault → Told
+told_by_clock (Ok tick) = tells.Now tick
+told_by_clock (Err fault) = tells.Fault fault
+
 abbrev pub told_by_error : Option Fault → Told
 told_by_error (Some fault) = tells.Fault fault
 told_by_error None = tells.Done
@@ -102,9 +116,14 @@ told_by_error None = tells.Done
 abbrev pub Says : Told → ℕ → ℕ → List Event → Type 0
 Says tells.Done number caller past = reply_at past caller number ≡ replies.Done
 Says (tells.Fault fault) number caller past = reply_at past caller number ≡ replies.Fault fault
+Says (tells.Now tick) number caller past = reply_at past caller number ≡ replies.Now tick
 Says tells.Answered number caller past = (a : Replied) × (older : List Event) × (past ≡ Answer a ∷ older) × (reply_at past caller number ≡ replies.Answered 0 a.answer) × IsAnswer a.answer
 
--- all that the worker noted is this one call, of which no event names a tick, and its caller is told what that says
+abbrev pub IsNow : Told → Type 0
+IsNow (tells.Now tick) = Unit {0}
+IsNow told = ⊥
+
+-- all that the worker noted is this one call, of which no event of a server names a tick, and its caller is told what that says; a server isn't told a tick
 pub record IsTold (told : Told) (number : ℕ) (old new : Desk) : Type 0 where
   pub more : List Event
   pub noted : theirs new.caller.work ≡ more ++ theirs old.caller.work
@@ -112,5 +131,6 @@ pub record IsTold (told : Told) (number : ℕ) (old new : Desk) : Type 0 where
   pub own : new.caller.work.own ≡ old.caller.work.own ++ added
   pub events : past_in added ≡ more
   pub call : AreCall old.caller.work.id.0 number more
-  pub ticks : All (λ (e : Event). tick_in old.caller.work.clients old.caller.work.id.0 e ≡ None) more
+  pub ticks : is_client old.caller.work.clients old.caller.work.id.0 ≡ false → All (λ (e : Event). tick_in old.caller.work.clients old.caller.work.id.0 e ≡ None) more
+  pub clock : is_client old.caller.work.clients old.caller.work.id.0 ≡ false → IsNow told → ⊥
   pub says : Says told number new.caller.work.id.0 (theirs new.caller.work)

@@ -1,17 +1,17 @@
 // A caller makes a call.
 ghost use Rattle.std.specs.Prelude.{◌≡◌, ◌+◌, ◌<◌, false, Ok, OnOk, IfOk, IfErr};
-ghost use Rattle.xa_desk.specs.xa_types.declared.call.Op.TheVariants.{Call, Priority};
+ghost use Rattle.xa_desk.specs.xa_types.declared.call.Op.TheVariants.{Call, Priority, Tick};
 ghost use Rattle.xa_desk.specs.xa_events.Said.{is_op};
 ghost use Rattle.xa_desk.specs.xa_events.Words.{count};
 ghost use Rattle.xa_desk.specs.xa_worker.Work.{theirs};
 ghost use Rattle.xa_desk.specs.Advertising.{IsChange};
 ghost use Rattle.xa_desk.specs.Desks.{IsDomain};
 ghost use Rattle.xa_desk.specs.xa_caller.Caller.{MayCall};
-ghost use Rattle.xa_calls.specs.Going.{IsReady, IsWaiting, IsStopped, PerformsBy, FoundPending, ToldAs, IsCallBy, told_by};
+ghost use Rattle.xa_calls.specs.Going.{IsReady, IsWaiting, IsStopped, PerformsBy, FoundPending, ToldAs, IsCall, told_by};
 ghost use Rattle.xa_calls.specs.Telling.{IsQuiet, IsNoWant, NotesOne, Closes, LookNotes, NotesCall, StoppedIn, IsTold};
 
 use crate::sending::{refused_by, send};
-use crate::telling::{Told, told_at, told_by_error};
+use crate::telling::{Told, told_at, told_by_clock, told_by_error};
 use std::sync::Wait;
 use xa_desk::caller::Step;
 use xa_desk::link::{Gate, Point, stay};
@@ -134,7 +134,7 @@ fn set_priority<W, G>(
     Ok(())
 }
 
-// A call by which the board or the clock would change.
+// A call by which the board would change.
 fn change<W: Wait, G>(
     monitor: &Monitor<'_, W, G>,
     desk: &mut Desk,
@@ -145,7 +145,7 @@ fn change<W: Wait, G>(
     requires ready { IsReady monitor.now.domain.now desk.old.caller.op desk.old }
     requires active { MayCall desk.old.caller }
     requires turn { op ≡ desk.old.caller.op + 1 }
-    requires kind { IsChange monitor.now.domain.now.clients desk.old.caller.work.id.0 change.now }
+    requires kind { IsChange change.now }
     ensures goes { PerformsBy monitor.now.domain.now op change.now desk.old desk.new }
     ensures active { MayCall desk.new.caller }
     ensures made { OnOk result (IsReady monitor.now.domain.now op desk.new) }
@@ -155,6 +155,28 @@ fn change<W: Wait, G>(
 {
     let refused = desk.change(monitor.rt, monitor.domain, op, change)?;
     Ok(told_by_error(refused))
+}
+
+// A tick: a client's moves the clock on.
+fn tick<W: Wait, G>(
+    monitor: &Monitor<'_, W, G>,
+    desk: &mut Desk,
+    op: u32,
+    n: u32,
+) -> Result<Told, Stopped>
+    requires domain { IsDomain monitor.now.domain.now }
+    requires ready { IsReady monitor.now.domain.now desk.old.caller.op desk.old }
+    requires active { MayCall desk.old.caller }
+    requires turn { op ≡ desk.old.caller.op + 1 }
+    ensures goes { PerformsBy monitor.now.domain.now op (Tick n) desk.old desk.new }
+    ensures active { MayCall desk.new.caller }
+    ensures made { OnOk result (IsReady monitor.now.domain.now op desk.new) }
+    ensures stopped { IfErr result (IsStopped desk.new) }
+    ensures told { IfOk result (λ told. IsTold told op desk.old desk.new) }
+    ensures within { IfErr result (λ stopped. StoppedIn op stopped desk.old desk.new) }
+{
+    let told = desk.tick(monitor.rt, monitor.domain, op, n)?;
+    Ok(told_by_clock(told))
 }
 
 // Makes its next call.
@@ -168,7 +190,7 @@ fn make<W: Wait, G>(
     requires ready { IsReady monitor.now.domain.now desk.old.caller.op desk.old }
     requires active { MayCall desk.old.caller }
     requires turn { number ≡ desk.old.caller.op + 1 }
-    requires kind { IsCallBy monitor.now.domain.now.clients desk.old.caller.work.id.0 op.now }
+    requires kind { IsCall op.now }
     ensures goes { PerformsBy monitor.now.domain.now number op.now desk.old desk.new }
     ensures active { MayCall desk.new.caller }
     ensures made { OnOk result (IsReady monitor.now.domain.now number desk.new) }
@@ -185,7 +207,8 @@ fn make<W: Wait, G>(
             set_priority(monitor, desk, number, *absolute, *amount)?;
             Ok(told_at(desk))
         }
-        Op::Advertise(..) | Op::Unadvertise(_) | Op::Tick(_) => change(monitor, desk, number, op),
+        Op::Advertise(..) | Op::Unadvertise(_) => change(monitor, desk, number, op),
+        Op::Tick(n) => tick(monitor, desk, number, *n),
         _ => unreachable!(),
     }
 }
@@ -202,7 +225,7 @@ pub fn perform<W: Wait, G: Gate>(
     requires ready { IsReady monitor.now.domain.now desk.old.caller.op desk.old }
     requires active { MayCall desk.old.caller }
     requires turn { number ≡ desk.old.caller.op + 1 }
-    requires kind { IsCallBy monitor.now.domain.now.clients desk.old.caller.work.id.0 op.now }
+    requires kind { IsCall op.now }
     ensures goes { PerformsBy monitor.now.domain.now number op.now desk.old desk.new }
     ensures active { MayCall desk.new.caller }
     ensures made { OnOk result (IsReady monitor.now.domain.now number desk.new) }

@@ -3,19 +3,20 @@ ghost use Rattle.std.specs.Prelude.{◌≡◌, ◌∷◌, ◌++◌, true, List, 
 ghost use Rattle.xa_desk.specs.xa_events.Homes.Home.{CallerHome};
 ghost use Rattle.xa_desk.specs.xa_stamp.declared.home.Stamped.{Stamped};
 ghost use Rattle.xa_desk.specs.xa_worker.Crew.{stands_at};
-ghost use Rattle.xa_calls.specs.Telling.{told_by_error, told_of};
+ghost use Rattle.xa_calls.specs.Telling.{told_by_clock, told_by_error, told_of};
 
 use xa_desk::Desk;
 use xa_desk::events::Event;
 use xa_desk::types::Fault;
 
-/// What the caller of a call is told: that it is done, by which error it failed, or that it was answered. The answer stands
-/// as the newest event at the caller's own home.
+/// What the caller of a call is told: that it is done, by which error it failed, that it was answered, or which tick the clock
+/// shows now. The answer stands as the newest event at the caller's own home.
 #[derive(Clone, Copy)]
 pub enum Told {
     Done,
     Fault(Fault),
     Answered,
+    Now(u64),
 }
 
 fn told_of(event: &Event) -> Told
@@ -35,6 +36,16 @@ pub(crate) fn told_by_error(refused: Option<Fault>) -> Told
     match refused {
         Some(fault) => Told::Fault(fault),
         None => Told::Done,
+    }
+}
+
+// What its caller is told of a tick.
+pub(crate) fn told_by_clock(told: Result<u64, Fault>) -> Told
+    ensures { result ≡ told_by_clock told }
+{
+    match told {
+        Ok(tick) => Told::Now(tick),
+        Err(fault) => Told::Fault(fault),
     }
 }
 

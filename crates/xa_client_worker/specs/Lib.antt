@@ -12,6 +12,7 @@ pub use Rattle.xa_desk.specs.xa_queue
 pub use Rattle.xa_desk.specs.xa_server
 pub use Rattle.xa_desk.specs.xa_restart
 pub use Rattle.xa_desk.specs.xa_board
+pub use Rattle.xa_desk.specs.xa_ticks
 pub use Rattle.xa_desk.specs.xa_held
 pub use Rattle.xa_desk.specs.xa_frame
 pub use Rattle.xa_desk.specs.xa_link

@@ -8,8 +8,8 @@ pub use xa_calls::perform;
 
 // What crates above name of those below.
 pub use xa_desk::{
-    board, buffer, caller, cell, events, held, link, lock, pipe, queue, restart, route, server,
-    stamp, types, work,
+    board, buffer, caller, cell, clock, events, held, link, lock, pipe, queue, restart, route,
+    server, stamp, types, work,
 };
 
 // What xa_desk itself has.

@@ -79,14 +79,14 @@ module _ {d : Domain} {old : Desk} {held there now : Board} {page : Page BoardNo
   pub may_leave_board : (more : List BoardNote) × AddsToBoard old there now more → (old : Desk) × (there : Board) × (more : List BoardNote) × IsAtBoard d old there page left × AddsToBoard old there now more
   may_leave_board did = (old, there, did.0, board_lent at same, did.1)
 
-  pub board_visited : {put : Option BoardPass} {last : Stamp} → ((old : Desk) (there : Board) → IsAtBoard d old there page left → LeavesBoard d old there now put last) → (new : Desk) → new.board ≡ put → new.queues.items ≡ old.queues.items
+  pub board_visited : {put : Option BoardPass} {last : Stamp} → ((old : Desk) (there : Board) → IsAtBoard d old there page left → LeavesBoard d old there now put last) → (new : Desk) → new.board ≡ put → new.queues.items ≡ old.queues.items → new.clock ≡ old.clock
       → {more : List BoardNote} {How : Board → Board → Type 0} → AreOursThere old more → Turns there now more How → BoardVisited d old new last more How
-  board_visited leaves new board queues {more} {How} ours turns =
+  board_visited leaves new board queues clock {more} {How} ours turns =
       let l = leaves old there (board_lent at same) in
       let v = l.visits more (adds_there ours turns) in record {
         pass = l.pass;
         back = l.back;
-        step = record { is = l.is; was = l.has; now = board ∙ l.kept; queues = queues; lock = l.lock };
+        step = record { is = l.is; was = l.has; now = board ∙ l.kept; queues = queues; clock = clock; lock = l.lock };
         reaches = l.reaches;
         came = record {
           old = v.old;

@@ -7,8 +7,9 @@ use Rattle.xa_server.specs.xa_types.declared.stamp.Stamp.{Stamp}
 use Rattle.xa_server.specs.xa_types.declared.ids.CallerId.{CallerId}
 use Rattle.xa_server.specs.xa_events.Board.{published}
 use Rattle.xa_server.specs.xa_events.Homes.{home_of}
-use Rattle.xa_server.specs.xa_events.Homes.Home.{BoardHome, QueueHome}
+use Rattle.xa_server.specs.xa_events.Homes.Home.{BoardHome, QueueHome, ClockHome}
 use Rattle.xa_server.specs.xa_stamp.declared.home.Stamped.{Stamped}
+use Rattle.xa_server.specs.xa_lock.declared.makers.Made.{Made}
 use Rattle.xa_server.specs.xa_lock.declared.pass.LockPass.{LockPass}
 use Rattle.xa_server.specs.xa_lock.Known.{known as page_of, IsPassOf}
 use Rattle.xa_server.specs.xa_lock.Pages.{StartsWith}
@@ -30,8 +31,9 @@ use Rattle.xa_server.specs.xa_caller.Caller.{CallerState}
 use Rattle.xa_desk.specs.declared.domain.Domain.{Domain}
 use Rattle.xa_desk.specs.declared.desk.Desk.{Desk}
 use Rattle.xa_desk.specs.Whole.{Whole, IsKnown}
-use Rattle.xa_desk.specs.Desks.{IsGrounded, IsBoardPass, IsQueuePass, IsThere, GoesOn, IsDesk, Leads, page_in, page_at, board_page, queue_page}
-use Rattle.xa_desk.proofs.Leading.{Grew, grew_none, Moves, none_leads, starts_same, starts_trans, there, filled_more, among_at, on_home, off_home, grounded_stay, queue_pass_stays}
+use Rattle.xa_desk.specs.Desks.{IsGrounded, IsBoardPass, IsQueuePass, IsClockPass, IsThere, GoesOn, IsDesk, Leads, page_in, page_at, board_page, queue_page, clock_page, shown_to}
+use Rattle.xa_desk.proofs.Timely.{timely_at}
+use Rattle.xa_desk.proofs.Leading.{Grew, grew_none, Moves, none_leads, starts_same, starts_trans, there, filled_more, among_at, on_home, off_home, grounded_stay, queue_pass_stays, clock_there_stays}
 use Rattle.xa_desk.proofs.Seating.{TakesOn, takes_same, none_taken}
 use Rattle.xa_desk.proofs.Visiting.{larger_known}
 
@@ -53,6 +55,7 @@ pub record BoardStep (d : Domain) (old new : Desk) (p p' : LockPass BoardNote) :
   pub was : old.board ≡ Some p
   pub now : new.board ≡ Some p'
   pub queues : new.queues.items ≡ old.queues.items
+  pub clock : new.clock ≡ old.clock
   pub lock : IsPassOf d.board p'
 
 module _ {d : Domain} {old new : Desk} {p p' : LockPass BoardNote} (step : BoardStep d old new p p') where
@@ -119,6 +122,9 @@ module _ {d : Domain} {old new : Desk} {p p' : LockPass BoardNote} (step : Board
           queues = λ k low. subst (λ (l : List (Option (LockPass (QueueNote Filling)))). IsThere (IsQueuePass d w' k) (slice_index_or l k None)) (sym step.queues)
               (there d (IsQueuePass d w k) (IsQueuePass d w' k) (slice_index_or old.queues.items k None) (queue_pass_stays d w w' (changes_at more) grew k (off_home d BoardHome (QueueHome (k + 1)) (changes_at more) home refl)) (is.queues k low));
           queues_seen = λ queue. subst (λ (l : List (Option (LockPass (QueueNote Filling)))). StartsWith (page_at l queue).seen (queue_page old queue).seen) (sym step.queues) (starts_same (queue_page old queue).seen);
+          clock = subst (IsThere (IsClockPass d w')) (sym step.clock) (clock_there_stays d w w' (changes_at more) grew (off_home d BoardHome ClockHome (changes_at more) home refl) old.clock
+              (timely_at d.setup d.clients w.clients w.id.0 (shown_to old) BoardHome tt (changes_at more) home) is.clock);
+          clock_seen = subst (λ (o : Option (LockPass Made)). StartsWith (page_in o).seen (clock_page old).seen) (sym step.clock) (starts_same (clock_page old).seen);
         }
 
     -- no change was noted, and the caller saw a stamp that is known, behind all changes that the pass saw

@@ -89,7 +89,7 @@ end_leads d queue desk slot slot' outcome stamp room new is serving seen ends re
     let made = ends.noted.made in
     next_leads d desk new x (grew_one desk.caller.work new.work (room - 1) x made (omega (arith, next)) tt) (ap (λ (w : WorkState). w.stamp) made) (ap CallerHome (ap (λ n. caller_of n slot.server.0) (sym is.clients) ∙ number))
     (subst (λ (c : CallerState). IsSeatOf d.cells c.seat) (sym rest) is.seat) (subst (λ (c : CallerState). TakesOn (known desk.caller.seat) (known c.seat)) (sym rest) (takes_same (known desk.caller.seat))) tt
-    (subst (λ (c : CallerState). c.least ≤ version) (sym rest) (raised_low (version_of outcome) desk.caller.least version is.least (λ v some. (seen v some).0))) is next
+    (subst (λ (c : CallerState). c.least ≤ version) (sym rest) (raised_low (version_of outcome) desk.caller.least version is.least (λ v some. (seen v some).0))) tt is next
     (λ whole on. record { saw = λ v some. (seen v some).1 whole on stamp (omega (arith, next)); told = tt; clears = tt })
 
 -- it names none

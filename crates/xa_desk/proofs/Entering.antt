@@ -107,8 +107,8 @@ module _ {there now : Kept Filling} (old : Desk) (seen : Stamp) (maker : CallerI
 
 module _ {d : Domain} {queue k : ℕ} {old : Desk} {there now : Kept Filling} {put : List (Option QueuePass)} {last : Stamp} (left : Leaves d queue k old there now put last) where
   -- it is a step of the desk, whatever becomes of its caller behind it
-  pub step_by : (new : Desk) → new.queues.items ≡ put → new.board ≡ old.board → Step d queue k old new left.pass left.back last
-  step_by new queues board = record { is = left.is; has = left.has; passes = queues ∙ left.passes; board = board; lock = left.lock; reaches = left.reaches }
+  pub step_by : (new : Desk) → new.queues.items ≡ put → new.board ≡ old.board → new.clock ≡ old.clock → Step d queue k old new left.pass left.back last
+  step_by new queues board clock = record { is = left.is; has = left.has; passes = queues ∙ left.passes; board = board; clock = clock; lock = left.lock; reaches = left.reaches }
 
   -- at which the queue changed as the call there says
   pub visits_by : {more : List Made} {How : Kept Filling → Kept Filling → Type 0} → Adds old there now more → How there now → Visits (page_of left.pass) (page_of left.back) more How
@@ -140,7 +140,7 @@ module _ {d : Domain} {n queue k : ℕ} {old : Desk} {held there now : Kept Fill
   may_leave did = (queue, old, there, did.0, lent at number same, did.1)
 
   pub visited : {put : List (Option QueuePass)} {last : Stamp} → ((queue : ℕ) (old : Desk) (there : Kept Filling) → IsAt d queue k old there page passes → Leaves d queue k old there now put last)
-      → (new : Desk) → new.queues.items ≡ put → new.board ≡ old.board → {more : List Made} {How : Kept Filling → Kept Filling → Type 0} → AreOurs old more → Becomes there now more How → Visited d queue old new last more How
-  visited leaves new queues board {more} ours b =
+      → (new : Desk) → new.queues.items ≡ put → new.board ≡ old.board → new.clock ≡ old.clock → {more : List Made} {How : Kept Filling → Kept Filling → Type 0} → AreOurs old more → Becomes there now more How → Visited d queue old new last more How
+  visited leaves new queues board clock {more} ours b =
       let left = leaves queue old there (lent at number same) in
-      record { k = k; pass = left.pass; back = left.back; step = step_by left new queues board; came = visits_by left (adds ours b) b.how }
+      record { k = k; pass = left.pass; back = left.back; step = step_by left new queues board clock; came = visits_by left (adds ours b) b.how }

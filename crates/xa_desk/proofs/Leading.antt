@@ -11,10 +11,13 @@ use Rattle.xa_server.specs.xa_events.declared.event.Event.{Event}
 use Rattle.xa_server.specs.xa_events.declared.event.Event.TheVariants.{Advertise}
 use Rattle.xa_server.specs.xa_events.Words.{AtEach}
 use Rattle.xa_server.specs.xa_events.Homes.{Home, home_of, same_home}
-use Rattle.xa_server.specs.xa_events.Homes.Home.{BoardHome, QueueHome, CallerHome}
+use Rattle.xa_server.specs.xa_events.Clock.{now}
+use Rattle.xa_server.specs.xa_events.Homes.Home.{BoardHome, QueueHome, ClockHome, CallerHome}
 use Rattle.xa_server.specs.xa_events.Board.{published}
 use Rattle.xa_server.specs.xa_stamp.declared.home.Stamped.{Stamped}
+use Rattle.xa_server.specs.xa_lock.declared.makers.Made.{Made}
 use Rattle.xa_server.specs.xa_lock.declared.pass.LockPass.{LockPass}
+use Rattle.xa_server.specs.xa_lock.Makers.{noted_in}
 use Rattle.xa_server.specs.xa_worker.Seen.{past_in, IsBehind}
 use Rattle.xa_server.specs.xa_worker.Crew.{stands_at}
 use Rattle.xa_server.proofs.xa_worker.Growing.{page_stays}
@@ -37,7 +40,8 @@ use Rattle.xa_desk.specs.declared.desk.Desk.{Desk}
 use Rattle.xa_desk.specs.Whole.{Whole, IsKnown}
 use Rattle.xa_desk.specs.Made.{IsMade}
 use Rattle.xa_desk.specs.Deserted.{GaveUpLast}
-use Rattle.xa_desk.specs.Desks.{IsAmong, IsGrounded, IsBoardPass, IsQueuePass, IsThere, GoesOn, HasGrounds, IsShown, Shows, IsDesk, Leads, board_page, queue_page}
+use Rattle.xa_desk.specs.Desks.{IsAmong, IsGrounded, IsBoardPass, IsQueuePass, IsClockPass, IsThere, GoesOn, HasGrounds, IsShown, Shows, IsDesk, Leads, board_page, queue_page, clock_page, shown_to, page_in}
+use Rattle.xa_desk.proofs.Timely.{IsTimely, floor_stays}
 use Rattle.xa_server.specs.Fillings.{WasTaken, AnswersTaken}
 use Rattle.xa_desk.proofs.Seating.{TakesAll, TakesOn, taken_before, took_on, filled_on}
 
@@ -146,6 +150,21 @@ module _ (d : Domain) where
       reached = let later = grew.stamp in All-weaker (λ (x : Stamped). x.stamp.0 ≤ w.stamp.0) (λ (x : Stamped). x.stamp.0 ≤ w'.stamp.0) (λ x le. omega (arith, le, later)) (events_at (page_of pass).seen) is.reached;
     }
 
+  -- the clock's, where no tick that was read or made since is greater than what it showed the pass last
+  module _ (w w' : WorkState) (more : List Stamped) (grew : Grew w w' more) where
+    pub clock_pass_stays : All (λ (x : Stamped). stands_at d.setup d.clients ClockHome x ≡ false) more → (pass : LockPass Made) → All (IsTimely w.clients w.id.0 (now (past_in (noted_in (page_of pass).seen)))) more → IsClockPass d w pass → IsClockPass d w' pass
+    clock_pass_stays off pass timely is = record {
+      lock = is.lock;
+      maker = is.maker ∙ ap (λ id. id.0) (sym grew.id);
+      own = page_stays d.setup d.clients ClockHome _ w.own more is.own off ∙ ap (filter (stands_at d.setup d.clients ClockHome)) (sym grew.own);
+      reached = let later = grew.stamp in All-weaker (λ (x : Stamped). x.stamp.0 ≤ w.stamp.0) (λ (x : Stamped). x.stamp.0 ≤ w'.stamp.0) (λ x le. omega (arith, le, later)) (noted_in (page_of pass).seen) is.reached;
+      floor = floor_stays w w' (now (past_in (noted_in (page_of pass).seen))) more grew.clients grew.id grew.own timely is.floor;
+    }
+
+    pub clock_there_stays : All (λ (x : Stamped). stands_at d.setup d.clients ClockHome x ≡ false) more → (pass : Option (LockPass Made)) → All (IsTimely w.clients w.id.0 (now (past_in (noted_in (page_in pass).seen)))) more → IsThere (IsClockPass d w) pass → IsThere (IsClockPass d w') pass
+    clock_there_stays off None timely is = absurd is
+    clock_there_stays off (Some pass) timely is = clock_pass_stays off pass timely is
+
   pub there : {E : Type 0} (P Q : LockPass E → Type 0) (pass : Option (LockPass E)) → ((p : LockPass E) → P p → Q p) → IsThere P pass → IsThere Q pass
   there P Q None more is = absurd is
   there P Q (Some pass) more is = more pass is
@@ -206,6 +225,8 @@ pub record Moves (d : Domain) (old new : Desk) (more : List Stamped) : Type 0 wh
   pub count : length new.queues.items ≡ length old.queues.items
   pub queues : (k : ℕ) → k < length d.queues.items → IsThere (IsQueuePass d new.caller.work k) (slice_index_or new.queues.items k None)
   pub queues_seen : (queue : ℕ) → StartsWith (queue_page new queue).seen (queue_page old queue).seen
+  pub clock : IsThere (IsClockPass d new.caller.work) new.clock
+  pub clock_seen : StartsWith (clock_page new).seen (clock_page old).seen
 
 module _ {d : Domain} {old new : Desk} where
   module _ {more : List Stamped} (is : IsDesk d old) (moves : Moves d old new more) where
@@ -214,6 +235,7 @@ module _ {d : Domain} {old new : Desk} where
       sound = on.sound;
       board = starts_trans whole.board.notes (board_page new).seen (board_page old).seen on.board moves.board_seen;
       queues = λ queue. starts_trans (notes_of (whole.queues queue)) (queue_page new queue).seen (queue_page old queue).seen (on.queues queue) (moves.queues_seen queue);
+      clock = starts_trans whole.clock (clock_page new).seen (clock_page old).seen on.clock moves.clock_seen;
       may = on.may;
       stand = λ x here. on.stand x (subst (λ (l : List Stamped). Contains l x) (sym {A = List Stamped} moves.grew.own) (Contains-append_left old.caller.work.own more x here));
       ended = taken_before whole old.caller.seat new.caller.seat moves.taken on.ended;
@@ -230,6 +252,7 @@ module _ {d : Domain} {old new : Desk} where
         least = moves.least;
         count = moves.count ∙ is.count;
         queues = moves.queues;
+        clock = moves.clock;
         made = made_more old.caller.work new.caller.work more grew is.made;
         among = among_more d old.caller.work new.caller.work more grew moves.among is.among;
         filled = moves.filled;
@@ -258,8 +281,8 @@ module _ {d : Domain} {old new : Desk} where
 
 module _ {d : Domain} {desk : Desk} {new : CallerState} where
   pub own_moves : {more : List Stamped} → IsDesk d desk → Grew desk.caller.work new.work more → All (λ (x : Stamped). home_of d.setup d.clients x.event ≡ CallerHome desk.caller.work.id.0) more → IsSeatOf d.cells new.seat → TakesAll (known desk.caller.seat) (known new.seat)
-      → FilledByEnds new.work.own (known new.seat) → AnswersTaken (known new.seat) more → new.least ≤ published (past_in (changes_at (board_page desk).seen)) → Moves d desk (record desk { caller = new }) more
-  own_moves {more} is grew home seat taken filled took least =
+      → FilledByEnds new.work.own (known new.seat) → AnswersTaken (known new.seat) more → new.least ≤ published (past_in (changes_at (board_page desk).seen)) → All (IsTimely desk.caller.work.clients desk.caller.work.id.0 (shown_to desk)) more → Moves d desk (record desk { caller = new }) more
+  own_moves {more} is grew home seat taken filled took least timely =
       let w : WorkState = desk.caller.work in
       let own : Home = CallerHome w.id.0 in
       record {
@@ -275,6 +298,8 @@ module _ {d : Domain} {desk : Desk} {new : CallerState} where
         count = refl;
         queues = λ k low. there d (IsQueuePass d w k) (IsQueuePass d new.work k) (slice_index_or desk.queues.items k None) (queue_pass_stays d w new.work more grew k (off_home d own (QueueHome (k + 1)) more home refl)) (is.queues k low);
         queues_seen = λ queue. starts_same (queue_page desk queue).seen;
+        clock = clock_there_stays d w new.work more grew (off_home d own ClockHome more home refl) desk.clock timely is.clock;
+        clock_seen = starts_same (clock_page desk).seen;
       }
 
 -- the caller noted nothing, and reads no older version
@@ -287,20 +312,21 @@ pub record IsQuiet (d : Domain) (desk : Desk) (new : CallerState) : Type 0 where
 module _ (d : Domain) (desk : Desk) (new : CallerState) where
   -- the caller noted an event at its own home
   pub own_leads : (x : Stamped) → Grew desk.caller.work new.work (x ∷ []) → new.work.stamp ≡ x.stamp → home_of d.setup d.clients x.event ≡ CallerHome desk.caller.work.id.0 → IsSeatOf d.cells new.seat → TakesOn (known desk.caller.seat) (known new.seat)
-      → WasTaken (known new.seat) x.stamp x.event → new.least ≤ published (past_in (changes_at (board_page desk).seen)) → IsDesk d desk → ((whole : Whole) → GoesOn d whole (record desk { caller = new }) → GoesOn d whole desk → IsShown d whole desk.caller.work.id.0 desk.caller.work.own x) → Leads d desk (record desk { caller = new })
-  own_leads x grew now home seat takes took least is shown =
+      → WasTaken (known new.seat) x.stamp x.event → new.least ≤ published (past_in (changes_at (board_page desk).seen)) → IsTimely desk.caller.work.clients desk.caller.work.id.0 (shown_to desk) x → IsDesk d desk → ((whole : Whole) → GoesOn d whole (record desk { caller = new }) → GoesOn d whole desk → IsShown d whole desk.caller.work.id.0 desk.caller.work.own x) → Leads d desk (record desk { caller = new })
+  own_leads x grew now home seat takes took least timely is shown =
       one_leads x is
       (own_moves is grew (All-cons (λ (y : Stamped). home_of d.setup d.clients y.event ≡ CallerHome desk.caller.work.id.0) x [] home (All-nil (λ (y : Stamped). home_of d.setup d.clients y.event ≡ CallerHome desk.caller.work.id.0))) seat takes.taken
-      (filled_more desk.caller.work new.work (x ∷ []) (known desk.caller.seat) (known new.seat) grew takes is.filled) (All-cons (λ (y : Stamped). WasTaken (known new.seat) y.stamp y.event) x [] took (All-nil (λ (y : Stamped). WasTaken (known new.seat) y.stamp y.event))) least)
+      (filled_more desk.caller.work new.work (x ∷ []) (known desk.caller.seat) (known new.seat) grew takes is.filled) (All-cons (λ (y : Stamped). WasTaken (known new.seat) y.stamp y.event) x [] took (All-nil (λ (y : Stamped). WasTaken (known new.seat) y.stamp y.event))) least
+      (All-cons (IsTimely desk.caller.work.clients desk.caller.work.id.0 (shown_to desk)) x [] timely (All-nil (IsTimely desk.caller.work.clients desk.caller.work.id.0 (shown_to desk)))))
       now shown
 
   -- with the stamp behind its own
   pub next_leads : (x : Stamped) → Grew desk.caller.work new.work (x ∷ []) → new.work.stamp ≡ x.stamp → home_of d.setup d.clients x.event ≡ CallerHome desk.caller.work.id.0 → IsSeatOf d.cells new.seat → TakesOn (known desk.caller.seat) (known new.seat)
-      → WasTaken (known new.seat) x.stamp x.event → new.least ≤ published (past_in (changes_at (board_page desk).seen)) → IsDesk d desk → x.stamp.0 ≡ desk.caller.work.stamp.0 + 1
+      → WasTaken (known new.seat) x.stamp x.event → new.least ≤ published (past_in (changes_at (board_page desk).seen)) → IsTimely desk.caller.work.clients desk.caller.work.id.0 (shown_to desk) x → IsDesk d desk → x.stamp.0 ≡ desk.caller.work.stamp.0 + 1
       → ((whole : Whole) → GoesOn d whole desk → HasGrounds d whole desk.caller.work.id.0 desk.caller.work.own x.stamp x.event) → Leads d desk (record desk { caller = new })
-  next_leads x grew now home seat takes took least is next grounds =
+  next_leads x grew now home seat takes took least timely is next grounds =
       let booted = is.booted in
-      own_leads x grew now home seat takes took least is (λ whole on back. record {
+      own_leads x grew now home seat takes took least timely is (λ whole on back. record {
         grounds = grounds whole back;
         behind = is_behind d.booted x.stamp x.event (omega (arith, booted, next));
         met = λ board. absurd (cc (ap (λ h. same_home h BoardHome) home, board));
@@ -313,7 +339,7 @@ module _ (d : Domain) (desk : Desk) (new : CallerState) where
   quiet_leads quiet is is_known =
       none_leads is
       (own_moves is quiet.grew (All-nil (λ (y : Stamped). home_of d.setup d.clients y.event ≡ CallerHome desk.caller.work.id.0)) quiet.seat quiet.takes.taken
-      (filled_more desk.caller.work new.work [] (known desk.caller.seat) (known new.seat) quiet.grew quiet.takes is.filled) (All-nil (λ (y : Stamped). WasTaken (known new.seat) y.stamp y.event)) (subst (λ (n : ℕ). n ≤ published (past_in (changes_at (board_page desk).seen))) (sym quiet.least) is.least)) is_known
+      (filled_more desk.caller.work new.work [] (known desk.caller.seat) (known new.seat) quiet.grew quiet.takes is.filled) (All-nil (λ (y : Stamped). WasTaken (known new.seat) y.stamp y.event)) (subst (λ (n : ℕ). n ≤ published (past_in (changes_at (board_page desk).seen))) (sym quiet.least) is.least) (All-nil (IsTimely desk.caller.work.clients desk.caller.work.id.0 (shown_to desk)))) is_known
 
   -- with the stamp that it had
   pub calm_leads : IsQuiet d desk new → IsDesk d desk → new.work.stamp ≡ desk.caller.work.stamp → Leads d desk (record desk { caller = new })

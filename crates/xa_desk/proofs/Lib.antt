@@ -45,3 +45,5 @@ pub use Rattle.xa_board.proofs as xa_board
 pub use Rattle.xa_server.proofs.xa_held
 pub use Rattle.xa_server.proofs.xa_buffer
 pub use Rattle.xa_server.proofs.xa_pipe
+mod Timely
+mod Clocks

@@ -27,7 +27,7 @@ use Rattle.xa_desk.specs.declared.domain.Domain.{Domain}
 use Rattle.xa_desk.specs.declared.desk.Desk.{Desk}
 use Rattle.xa_desk.specs.Desks.{IsDesk, IsDomain, IsAmong}
 
-all_past : (P : Event → Type 0) (xs : List Stamped) → All (λ (x : Stamped). P x.event) xs → All P (past_in xs)
+pub all_past : (P : Event → Type 0) (xs : List Stamped) → All (λ (x : Stamped). P x.event) xs → All P (past_in xs)
 all_past P [] all = All-nil P
 all_past P (x ∷ xs) all =
     All-same P (past_in (x ∷ xs)) (past_in xs ++ x.event ∷ []) (reverse-append (x.event ∷ []) (map (λ (y : Stamped). y.event) xs))

@@ -32,7 +32,7 @@ module _ (d : Domain) (desk : Desk) (is : IsDesk d desk) where
   leave_goes : (stamp : Stamp) (new : WorkState) → stamp.0 ≡ desk.caller.work.stamp.0 + 1 → new ≡ noted (record { stamp = stamp; event = Leave desk.caller.work.id }) desk.caller.work → Leads d desk (with_work new) × FitsStill d desk (with_work new)
   leave_goes stamp new next made =
       let id : ℕ = desk.caller.work.id.0 in
-      let leads : Leads d desk (with_work new) = event_leads d desk stamp (Leave desk.caller.work.id) desk.caller.work.room new next made is refl tt tt (λ whole on. record { saw = tt; told = tt; clears = tt }) in (
+      let leads : Leads d desk (with_work new) = event_leads d desk stamp (Leave desk.caller.work.id) desk.caller.work.room new next made is refl tt tt tt (λ whole on. record { saw = tt; told = tt; clears = tt }) in (
         leads,
         λ ops fits whole on.
             subst (λ (w : WorkState). FitEach d.setup d.clients (entries_of whole) w.id.0 ops w.own) (sym made)

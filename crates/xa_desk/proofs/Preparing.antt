@@ -126,7 +126,7 @@ module _ (d : Domain) (desk : Desk) (found : FoundRows) (op : ℕ) (ask : Ask) (
       → ((whole : Whole) → SawListed d.setup d.clients (entries_of whole) stamp found.version ask.service false P → AskRefusedOwn d.setup d.clients (entries_of whole) stamp desk.caller.work.id.0 (as_call d.setup ask) ask fault (Version found.version) (its_events d desk)) → GoesFor d op ask desk Next
   by_version fault stamp kind refuses P holds fits =
       let next = refuses.next in
-      let goes = refuse_goes d desk desk.caller new op fault (Version found.version) stamp is (same_as d desk is) refuses has.seen kind (λ whole on.
+      let goes = refuse_goes d desk desk.caller new op fault (Version found.version) stamp is (same_as d desk is) refuses has.seen kind tt (λ whole on.
       weaker_front (entries_of whole BoardHome) stamp (λ past. (found.version ≤ published past) × (listed_in d.setup past found.version ask.service false ≡ found.rows)) (λ past. found.version ≤ published past) (λ past shows. shows.0) (has.listed whole on stamp (omega (arith, next)))) (λ whole on. tt) reads idle in
       (goes.0, goes.1 ask (λ whole on. fits whole (listed_shows d found ask.service desk P has holds whole on stamp (omega (arith, next)))))
 
@@ -135,7 +135,7 @@ module _ (d : Domain) (desk : Desk) (found : FoundRows) (op : ℕ) (ask : Ask) (
   by_limit stamp limits =
       let left : CallerState = record desk.caller { work = record desk.caller.work { room = max desk.caller.work.room room_to_send }; seat = limits.seat } in
       let same : IsSame d desk left = record { work = refl; seat = subst (IsSeatOf d.cells) (ap (λ (c : CallerState). c.seat) limits.refuses.made) seat; takes = keeps_on (known desk.caller.seat) (known limits.seat) (full_keeps desk.caller.seat limits.seat limits.taken); least = refl } in
-      let goes = refuse_goes d desk left new op Limit (Cells desk.caller.seat.count) stamp is same limits.refuses tt tt (λ whole on. tt) (λ whole on. tt) reads idle in
+      let goes = refuse_goes d desk left new op Limit (Cells desk.caller.seat.count) stamp is same limits.refuses tt tt tt (λ whole on. tt) (λ whole on. tt) reads idle in
       (goes.0, goes.1 ask (λ whole on. (valid, refl)))
 
   stop_goes : (stop : Stop) → StopsAs d.setup op ask.payload found stop new desk.caller → GoesFor d op ask desk Next
@@ -158,7 +158,7 @@ module _ (d : Domain) (desk : Desk) (found : FoundRows) (op : ℕ) (ask : Ask) (
 
 module _ (d : Domain) (desk : Desk) (op : ℕ) (ask : Ask) (is : IsDesk d desk) (reads : IsRead d desk) (idle : just_in desk.caller.phase ≡ None) (new : CallerState) where
   check_goes : (stop : Stop) → is_invalid_call d.setup ask ≡ true → ChecksAs op stop new desk.caller → GoesFor d op ask desk (record desk { caller = new })
-  check_goes (stops.Refused stamp) invalid refuses = let goes = refuse_goes d desk desk.caller new op Inval Argument stamp is (same_as d desk is) refuses tt tt (λ whole on. tt) (λ whole on. tt) reads idle in (goes.0, goes.1 ask (λ whole on. invalid))
+  check_goes (stops.Refused stamp) invalid refuses = let goes = refuse_goes d desk desk.caller new op Inval Argument stamp is (same_as d desk is) refuses tt tt tt (λ whole on. tt) (λ whole on. tt) reads idle in (goes.0, goes.1 ask (λ whole on. invalid))
   check_goes (stops.Halt halt) invalid kept = kept_goes d desk op ask new is kept.1
 
   pub checked_goes : (r : Result (List ℕ) Stop) → OnOk r (new ≡ desk.caller) → IfErr r (λ stop. (is_invalid_call desk.caller.work.setup ask ≡ true) × ChecksAs op stop new desk.caller)

@@ -37,7 +37,7 @@ module _ (d : Domain) (desk : Desk) (op : ℕ) (absolute : Bool) (amount : ℤ) 
     set_leads =
         let made = sets.made in
         next_leads d desk new One grew (ap (λ (c : CallerState). c.work.stamp) made) refl (subst (λ (c : CallerState). IsSeatOf d.cells c.seat) (sym made) is.seat) (subst (λ (c : CallerState). TakesOn (known desk.caller.seat) (known c.seat)) (sym made) (takes_same (known desk.caller.seat))) tt
-        (subst (λ (c : CallerState). c.least ≤ published (past_in (changes_at (board_page desk).seen))) (sym made) is.least) is sets.next
+        (subst (λ (c : CallerState). c.least ≤ published (past_in (changes_at (board_page desk).seen))) (sym made) is.least) tt is sets.next
         (λ whole on. record { saw = tt; told = tt; clears = tt })
 
     set_fits : FitsOp d op (PriorityOp absolute amount) desk Next

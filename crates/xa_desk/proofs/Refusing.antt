@@ -1,5 +1,5 @@
 -- What a desk knows and shows goes on, as a call of its caller is refused.
-use Rattle.std.proofs.Common.{◌≡◌, ◌≤◌, ℕ, [], ◌∷◌, ◌++◌, Option, Some, None, refl, sym, ◌∙◌, ap, subst, arith, ◌+◌}
+use Rattle.std.proofs.Common.{◌≡◌, ◌≤◌, ℕ, ◌==◌, [], ◌∷◌, ◌++◌, Option, Some, None, refl, sym, ◌∙◌, ap, subst, arith, ◌+◌}
 use Rattle.std.specs.Prelude.{IfSome}
 use Rattle.xa_server.specs.xa_types.declared.call.Ask.{Ask}
 use Rattle.xa_server.specs.xa_types.declared.call.Op.TheVariants.{Call}
@@ -7,7 +7,7 @@ use Rattle.xa_server.specs.xa_types.declared.fault.Fault.{Fault}
 use Rattle.xa_server.specs.xa_types.declared.stamp.Stamp.{Stamp}
 use Rattle.xa_server.specs.xa_events.declared.event.Evidence.{Evidence}
 use Rattle.xa_server.specs.xa_events.Board.{published}
-use Rattle.xa_server.specs.xa_events.Caller.{version_in}
+use Rattle.xa_server.specs.xa_events.Caller.{version_in, tick_of}
 use Rattle.xa_server.specs.xa_events.Calls.{as_call}
 use Rattle.xa_server.specs.xa_events.Homes.Home.{CallerHome}
 use Rattle.xa_server.specs.xa_stamp.declared.home.Stamped.{Stamped}
@@ -23,7 +23,8 @@ use Rattle.xa_desk.specs.declared.domain.Domain.{Domain}
 use Rattle.xa_desk.specs.Made.{IsRefusal}
 use Rattle.xa_desk.specs.declared.desk.Desk.{Desk}
 use Rattle.xa_desk.specs.Whole.{Whole, entries_of}
-use Rattle.xa_desk.specs.Desks.{GoesOn, IsDesk, Leads, board_page}
+use Rattle.xa_desk.specs.Desks.{GoesOn, IsDesk, Leads, board_page, shown_to}
+use Rattle.xa_desk.proofs.Timely.{if_some_if}
 use Rattle.xa_desk.specs.Steps.{FitsOn}
 use Rattle.xa_desk.proofs.Fitting.{its_events, IsRead, call_over, one_more_fits}
 use Rattle.xa_desk.proofs.Leading.{Grew, grew_one, next_leads}
@@ -44,7 +45,7 @@ pub same_as : (d : Domain) (desk : Desk) → IsDesk d desk → IsSame d desk des
 same_as d desk is = record { work = refl; seat = is.seat; takes = takes_same (known desk.caller.seat); least = refl }
 
 module _ (d : Domain) (desk : Desk) (left new : CallerState) (op : ℕ) (fault : Fault) (evidence : Evidence) (stamp : Stamp) (is : IsDesk d desk) (same : IsSame d desk left) (refuses : Refuses op fault evidence stamp new left)
-    (shown : IfSome (version_in evidence) (λ v. v ≤ published (past_in (changes_at (board_page desk).seen)))) (kind : IsRefusal fault evidence) where
+    (shown : IfSome (version_in evidence) (λ v. v ≤ published (past_in (changes_at (board_page desk).seen)))) (kind : IsRefusal fault evidence) (timely : IfSome (tick_of evidence) (λ tick. tick ≤ shown_to desk)) where
   abbrev One : Stamped
   One = record { stamp = stamp; event = refused op fault evidence left }
 
@@ -66,7 +67,7 @@ module _ (d : Domain) (desk : Desk) (left new : CallerState) (op : ℕ) (fault :
         let stays = same.least in
         let shows_least : least_by (version_in evidence) left.least ≤ published (past_in (changes_at (board_page desk).seen)) = least_low (version_in evidence) left.least (published (past_in (changes_at (board_page desk).seen))) (omega (arith, low, stays)) shown in
         next_leads d desk new One grew (ap (λ (c : CallerState). c.work.stamp) made) (ap (λ (w : WorkState). CallerHome w.id.0) same.work) (subst (λ (c : CallerState). IsSeatOf d.cells c.seat) (sym made) same.seat) (subst (λ (c : CallerState). TakesOn (known desk.caller.seat) (known c.seat)) (sym made) same.takes) tt
-        (subst (λ (c : CallerState). c.least ≤ published (past_in (changes_at (board_page desk).seen))) (sym made) shows_least) is next
+        (subst (λ (c : CallerState). c.least ≤ published (past_in (changes_at (board_page desk).seen))) (sym made) shows_least) (if_some_if (left.work.id.0 == desk.caller.work.id.0) (tick_of evidence) (λ tick. tick ≤ shown_to desk) timely) is next
         (λ whole on. record { saw = saw whole on; told = told whole on; clears = tt })
 
     -- and that fits a call that may be refused so

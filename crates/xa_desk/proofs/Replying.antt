@@ -119,7 +119,7 @@ module _ (d : Domain) (desk : Desk) (new : CallerState) (is : IsDesk d desk) (it
         let booted = is.booted in
         let low = is.least in
         let least = ap (λ (c : CallerState). c.least) made in
-        own_leads d desk new One grew (ap (λ (c : CallerState). c.work.stamp) made) refl its (takes answers.sent.place.cell answers.filling answers.took) was_taken (omega (arith, low, least)) is (λ whole on back.
+        own_leads d desk new One grew (ap (λ (c : CallerState). c.work.stamp) made) refl its (takes answers.sent.place.cell answers.filling answers.took) was_taken (omega (arith, low, least)) tt is (λ whole on back.
         record {
           grounds = record {
             saw = tt;

@@ -1,7 +1,8 @@
 -- An event of a server that its worker noted at its own home.
-use Rattle.std.proofs.Common.{◌≡◌, ℕ, [], Result, Ok, Err, sym, ◌∙◌, ap, subst, append-nil, arith, ◌-◌, ◌+◌, ◌++◌, ◌∷◌}
+use Rattle.std.proofs.Common.{◌≡◌, ◌≤◌, ℕ, [], Result, Ok, Err, sym, ◌∙◌, ap, subst, append-nil, arith, ◌-◌, ◌+◌, ◌++◌, ◌∷◌}
 use Rattle.xa_server.specs.xa_cell.Known.{known}
-use Rattle.std.specs.Prelude.{OnErr, IfOk}
+use Rattle.std.specs.Prelude.{OnErr, IfOk, IfSome}
+use Rattle.xa_server.specs.xa_events.Caller.{tick_in}
 use Rattle.xa_server.specs.xa_types.declared.stamp.Stamp.{Stamp}
 use Rattle.xa_server.specs.xa_types.Setup.{queue_of}
 use Rattle.xa_server.specs.xa_events.declared.event.Event.{Event}
@@ -25,7 +26,7 @@ use Rattle.xa_desk.specs.declared.desk.Desk.{Desk}
 use Rattle.xa_desk.specs.Whole.{Whole, entries_of}
 use Rattle.xa_desk.specs.Found.{SawAtQueue}
 use Rattle.xa_desk.specs.Serving.{IsServing}
-use Rattle.xa_desk.specs.Desks.{GoesOn, HasGrounds, IsDesk, Leads, queue_page}
+use Rattle.xa_desk.specs.Desks.{GoesOn, HasGrounds, IsDesk, Leads, queue_page, shown_to}
 use Rattle.xa_server.specs.Fillings.{WasTaken}
 use Rattle.xa_desk.proofs.Leading.{starts_same, grew_one, next_leads}
 use Rattle.xa_desk.proofs.Seating.{takes_same}
@@ -36,11 +37,11 @@ same_leads d desk is = record { desk = is; own = ([], sym (append-nil desk.calle
 
 -- the event was noted, the caller is else as it was, and in the end the worker shows it
 pub event_leads : (d : Domain) (desk : Desk) (stamp : Stamp) (e : Event) (room : ℕ) (new : WorkState) → stamp.0 ≡ desk.caller.work.stamp.0 + 1 → new ≡ record desk.caller.work { stamp = stamp; own = desk.caller.work.own ++ record { stamp = stamp; event = e } ∷ []; room = room } → IsDesk d desk
-    → home_of d.setup d.clients e ≡ CallerHome desk.caller.work.id.0 → IsMade e → WasTaken (known desk.caller.seat) stamp e
+    → home_of d.setup d.clients e ≡ CallerHome desk.caller.work.id.0 → IsMade e → WasTaken (known desk.caller.seat) stamp e → IfSome (tick_in desk.caller.work.clients desk.caller.work.id.0 e) (λ tick. tick ≤ shown_to desk)
     → ((whole : Whole) → GoesOn d whole desk → HasGrounds d whole desk.caller.work.id.0 desk.caller.work.own stamp e) → Leads d desk (record desk { caller = record desk.caller { work = new } })
-event_leads d desk stamp e room new next made is home kind took grounds =
+event_leads d desk stamp e room new next made is home kind took timely grounds =
     let x : Stamped = record { stamp = stamp; event = e } in
-    next_leads d desk (record desk.caller { work = new }) x (grew_one desk.caller.work new room x made (omega (arith, next)) kind) (ap (λ (w : WorkState). w.stamp) made) home is.seat (takes_same (known desk.caller.seat)) took is.least is next grounds
+    next_leads d desk (record desk.caller { work = new }) x (grew_one desk.caller.work new room x made (omega (arith, next)) kind) (ap (λ (w : WorkState). w.stamp) made) home is.seat (takes_same (known desk.caller.seat)) took is.least timely is next grounds
 
 -- ---- Stop
 
@@ -48,7 +49,7 @@ pub stop_leads : (d : Domain) (queue : ℕ) (desk : Desk) (slot slot' : ServerSl
     → queue_of d.setup slot.server.0 ≡ queue → (cause ≡ Shutdown → SawAtQueue d queue desk (IsShut d.setup queue)) → Stops cause stamp slot' slot new desk.caller.work → Leads d desk (record desk { caller = record desk.caller { work = new } })
 stop_leads d queue desk slot slot' cause stamp new is number its shut stops =
     let next = stops.noted.next in
-    event_leads d desk stamp (Stop (record { server = slot.server; generation = life_in slot.doing; cause = cause })) (desk.caller.work.room - 1) new next stops.noted.made is (ap CallerHome (ap (λ n. caller_of n slot.server.0) (sym is.clients) ∙ number)) tt tt (λ whole on. record {
+    event_leads d desk stamp (Stop (record { server = slot.server; generation = life_in slot.doing; cause = cause })) (desk.caller.work.room - 1) new next stops.noted.made is (ap CallerHome (ap (λ n. caller_of n slot.server.0) (sym is.clients) ∙ number)) tt tt tt (λ whole on. record {
       saw = λ shutdown. subst (λ q. SawQueue d.setup q (entries_of whole (QueueHome q)) stamp (IsShut d.setup q)) (sym its) (shut shutdown whole on stamp (omega (arith, next)));
       told = tt;
       clears = tt;

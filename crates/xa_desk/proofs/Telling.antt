@@ -22,7 +22,8 @@ use Rattle.xa_server.specs.Fillings.{WasTaken}
 use Rattle.xa_server.proofs.Calls.{fill_grows}
 use Rattle.xa_desk.specs.declared.domain.Domain.{Domain}
 use Rattle.xa_desk.specs.declared.desk.Desk.{Desk}
-use Rattle.xa_desk.specs.Desks.{IsDesk, Leads}
+use Rattle.xa_desk.specs.Desks.{IsDesk, Leads, shown_to}
+use Rattle.xa_desk.proofs.Timely.{IsTimely}
 use Rattle.xa_desk.specs.Serving.{IsToTell}
 use Rattle.xa_desk.proofs.Leading.{grew_none, own_moves, none_leads}
 
@@ -50,4 +51,4 @@ give_leads d desk closing became seat is told its given =
     let grows = given_grows closing.ticket closing.answer stamp (known desk.caller.seat) (known seat) became given in
     none_leads is
     (own_moves is (grew_none desk.caller.work desk.caller.work desk.caller.work.room desk.caller.work.stamp refl (omega arith)) (All-nil (λ (y : Stamped). home_of d.setup d.clients y.event ≡ CallerHome desk.caller.work.id.0)) its grows.taken
-    (given_ended own closing stamp (known desk.caller.seat) (known seat) became given told.reached (λ answered. latest_has own (told.noted answered)) told.backed is.filled) (All-nil (λ (y : Stamped). WasTaken (known seat) y.stamp y.event)) is.least) (λ whole on back. is.known_stamp whole back)
+    (given_ended own closing stamp (known desk.caller.seat) (known seat) became given told.reached (λ answered. latest_has own (told.noted answered)) told.backed is.filled) (All-nil (λ (y : Stamped). WasTaken (known seat) y.stamp y.event)) is.least (All-nil (IsTimely desk.caller.work.clients desk.caller.work.id.0 (shown_to desk)))) (λ whole on back. is.known_stamp whole back)

@@ -86,7 +86,7 @@ module _ (d : Domain) (desk : Desk) (found : FoundRows) (cell : ℕ) (is : IsDes
   down_goes blocks stamp refuses why =
       let next = refuses.next in
       let seen = has.1.seen in
-      let goes = refuse_goes d desk Left new draft.op System (AllDown draft.version) stamp is same refuses (omega (arith, version, seen)) tt (λ whole on.
+      let goes = refuse_goes d desk Left new draft.op System (AllDown draft.version) stamp is same refuses (omega (arith, version, seen)) tt tt (λ whole on.
       weaker_front (entries_of whole BoardHome) stamp (λ past. (found.version ≤ published past) × (listed_in d.setup past found.version has.0 false ≡ found.rows)) (λ past. draft.version ≤ published past) (λ past shows. let le = shows.0 in omega (arith, version, le)) (has.1.listed whole on stamp (omega (arith, next)))) (λ whole on. tt) reads idle in (
         goes.0,
         λ ask valid same_blocks its_found. goes.1 ask (λ whole on.
@@ -102,7 +102,7 @@ module _ (d : Domain) (desk : Desk) (found : FoundRows) (cell : ℕ) (is : IsDes
   full_goes : (queue : QueueId) (n : ℕ) (stamp : Stamp) → Refuses draft.op Block (Queue queue n) stamp new Left → IsWhy d found (reasons.Full queue n) desk → Goes true
   full_goes queue n stamp refuses why =
       let next = refuses.next in
-      let goes = refuse_goes d desk Left new draft.op Block (Queue queue n) stamp is same refuses tt tt (λ whole on. why.filled.2 whole on stamp (omega (arith, next))) (λ whole on. tt) reads idle in
+      let goes = refuse_goes d desk Left new draft.op Block (Queue queue n) stamp is same refuses tt tt tt (λ whole on. why.filled.2 whole on stamp (omega (arith, next))) (λ whole on. tt) reads idle in
       (goes.0, λ ask valid blocks its_found. goes.1 ask (λ whole on. (valid, sym blocks, no_room ask its_found whole on)))
     where
       no_room : (ask : Ask) → HasFound d ask.service found desk → (whole : Whole) → GoesOn d whole desk → SawNoRoom d.setup d.clients (entries_of whole) stamp desk.caller.work.id.0 ask.service false queue.0 (its_events d desk)

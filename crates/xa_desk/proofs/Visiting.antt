@@ -11,7 +11,7 @@ use Rattle.xa_server.specs.xa_types.declared.stamp.Stamp.{Stamp}
 use Rattle.xa_server.specs.xa_types.declared.ids.CallerId.{CallerId}
 use Rattle.xa_server.specs.xa_events.declared.event.Event.{Event}
 use Rattle.xa_server.specs.xa_events.Homes.{Home, home_of, same_home}
-use Rattle.xa_server.specs.xa_events.Homes.Home.{BoardHome, QueueHome}
+use Rattle.xa_server.specs.xa_events.Homes.Home.{BoardHome, QueueHome, ClockHome}
 use Rattle.xa_server.specs.xa_events.Board.{published}
 use Rattle.xa_server.specs.xa_stamp.declared.home.Stamped.{Stamped}
 use Rattle.xa_server.specs.xa_stamp.Home.{last_stamp, larger_of}
@@ -44,8 +44,10 @@ use Rattle.xa_desk.specs.declared.desk.Desk.{Desk}
 use Rattle.xa_desk.specs.Whole.{Whole, entries_of, IsKnown}
 use Rattle.xa_desk.specs.Made.{IsMade}
 pub use Rattle.xa_desk.specs.Visit.{QueuePass, QueueLock, HasPass}
-use Rattle.xa_desk.specs.Desks.{IsBoardPass, IsQueuePass, IsSettingOf, IsThere, GoesOn, HasGrounds, IsDesk, Leads, page_in, page_at, board_page, queue_page}
-use Rattle.xa_desk.proofs.Leading.{Grew, grew_one, grew_none, Moves, none_leads, one_leads, starts_same, starts_trans, there, filled_more, among_at, on_home, off_home, board_pass_stays, queue_pass_stays, is_behind}
+use Rattle.xa_desk.specs.Desks.{IsBoardPass, IsQueuePass, IsClockPass, IsSettingOf, IsThere, GoesOn, HasGrounds, IsDesk, Leads, page_in, page_at, board_page, queue_page, clock_page, shown_to}
+use Rattle.xa_server.specs.xa_lock.declared.pass.LockPass.{LockPass}
+use Rattle.xa_desk.proofs.Leading.{Grew, grew_one, grew_none, Moves, none_leads, one_leads, starts_same, starts_trans, there, filled_more, among_at, on_home, off_home, board_pass_stays, queue_pass_stays, clock_there_stays, is_behind}
+use Rattle.xa_desk.proofs.Timely.{timely_at}
 use Rattle.xa_desk.proofs.Seating.{TakesOn, takes_same, none_taken}
 use Rattle.xa_desk.proofs.Telling.{latest_has}
 
@@ -101,6 +103,7 @@ pub record Step (d : Domain) (queue k : ℕ) (old new : Desk) (p p' : QueuePass)
   pub has : HasPass d queue k old p
   pub passes : new.queues.items ≡ slice_set (slice_set old.queues.items k None) k (Some p')
   pub board : new.board ≡ old.board
+  pub clock : new.clock ≡ old.clock
   pub lock : (default : QueueLock) → IsPassOf (slice_index_or d.queues.items k default) p'
   pub reaches : Reaches (page_of p') last
 
@@ -165,6 +168,9 @@ module _ {d : Domain} {queue k : ℕ} {old new : Desk} {p p' : QueuePass} {last 
                 (queue_pass_stays d w w' (noted_in more) grew j (off_home d here (QueueHome (j + 1)) (noted_in more) at_home (ne_eqb (k + 1) (j + 1) (λ e. apart (omega (arith, e)))))) (is.queues j low_j))
           ];
           queues_seen = seen;
+          clock = subst (IsThere (IsClockPass d w')) (sym step.clock) (clock_there_stays d w w' (noted_in more) grew (off_home d here ClockHome (noted_in more) at_home refl) old.clock
+              (timely_at d.setup d.clients w.clients w.id.0 (shown_to old) here tt (noted_in more) at_home) is.clock);
+          clock_seen = subst (λ (o : Option (LockPass Made)). StartsWith (page_in o).seen (clock_page old).seen) (sym step.clock) (starts_same (clock_page old).seen);
         }
       where
         seen : (j : ℕ) → StartsWith (queue_page new j).seen (queue_page old j).seen

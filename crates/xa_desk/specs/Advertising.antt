@@ -8,7 +8,7 @@ use Rattle.xa_server.specs.xa_types.Rows.{row_of}
 use Rattle.xa_server.specs.xa_events.declared.event.Evidence.{Evidence}
 use Rattle.xa_server.specs.xa_events.declared.event.Evidence.TheVariants.{Role, Argument, Routine, Rows, NoRow}
 use Rattle.xa_server.specs.xa_types.declared.call.Op.{Op}
-use Rattle.xa_server.specs.xa_types.declared.call.Op.TheVariants.{Advertise, Unadvertise, Tick}
+use Rattle.xa_server.specs.xa_types.declared.call.Op.TheVariants.{Advertise, Unadvertise}
 use Rattle.xa_server.specs.xa_types.Name.{is_name}
 use Rattle.xa_server.specs.xa_events.Caller.{is_client}
 use Rattle.xa_server.specs.xa_events.Cases.{row_limit, rows_now, queue_by}
@@ -76,23 +76,16 @@ UnadvertiseRefusedBy d desk service faults.NoEnt NoRow = (is_client d.clients de
     × BarsWithdrawal service (queue_by d.setup d.clients desk.caller.work.id.0) refusals.NoEnt (rows_seen d desk)
 UnadvertiseRefusedBy d desk service fault evidence = ⊥
 
--- and a tick of a server, which moves no clock (this project's own)
-abbrev pub TickRefusedBy : Domain → Desk → Fault → Evidence → Type 0
-TickRefusedBy d desk faults.Proto Role = is_client d.clients desk.caller.work.id.0 ≡ false
-TickRefusedBy d desk fault evidence = ⊥
+-- these are the calls by which the board would change
+abbrev pub IsChange : Op → Type 0
+IsChange (Advertise service routine) = Unit {0}
+IsChange (Unadvertise service) = Unit {0}
+IsChange op = ⊥
 
--- these are the calls by which the board or the clock would change, but for a client's tick, which moves the clock
-abbrev pub IsChange : ℕ → ℕ → Op → Type 0
-IsChange clients caller (Advertise service routine) = Unit {0}
-IsChange clients caller (Unadvertise service) = Unit {0}
-IsChange clients caller (Tick n) = is_client clients caller ≡ false
-IsChange clients caller op = ⊥
-
--- any of the three
+-- either
 abbrev pub ChangeRefusedBy : Domain → Desk → Op → Fault → Evidence → Type 0
 ChangeRefusedBy d desk (Advertise service routine) fault evidence = AdvertiseRefusedBy d desk service routine fault evidence
 ChangeRefusedBy d desk (Unadvertise service) fault evidence = UnadvertiseRefusedBy d desk service fault evidence
-ChangeRefusedBy d desk (Tick n) fault evidence = TickRefusedBy d desk fault evidence
 ChangeRefusedBy d desk change fault evidence = ⊥
 
 -- such a refusal is one of these

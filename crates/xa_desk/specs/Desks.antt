@@ -8,7 +8,9 @@ use Rattle.xa_server.specs.xa_types.declared.stamp.Stamp.{Stamp}
 use Rattle.xa_server.specs.xa_events.declared.event.Event.{Event}
 use Rattle.xa_server.specs.xa_events.Board.{boot, published}
 use Rattle.xa_server.specs.xa_events.Homes.{Home, home_of}
-use Rattle.xa_server.specs.xa_events.Homes.Home.{BoardHome, QueueHome}
+use Rattle.xa_server.specs.xa_events.Homes.Home.{BoardHome, QueueHome, ClockHome}
+use Rattle.xa_server.specs.xa_events.Caller.{tick_floor}
+use Rattle.xa_server.specs.xa_events.Clock.{now}
 use Rattle.xa_server.specs.xa_events.Local.{worker_events}
 use Rattle.xa_server.specs.xa_events.Words.{AtEach}
 use Rattle.xa_server.specs.xa_stamp.declared.home.Stamped.{Stamped}
@@ -34,7 +36,7 @@ use Rattle.xa_server.specs.xa_held.Joins.{HasServers, changes_page, changes_at, 
 use Rattle.xa_server.specs.xa_held.Kept.{notes_of}
 use Rattle.xa_server.specs.xa_held.Notes.{made_page}
 use Rattle.xa_server.specs.xa_held.Visits.{Sees}
-use Rattle.xa_server.specs.xa_worker.Work.{WorkState}
+use Rattle.xa_server.specs.xa_worker.Work.{WorkState, theirs}
 use Rattle.xa_server.specs.xa_worker.Going.{FitEach}
 use Rattle.xa_server.specs.xa_caller.declared.cargo.Filling.{Filling}
 use Rattle.xa_server.specs.Told.{HasStamp, FilledByEnds}
@@ -67,6 +69,14 @@ page_at passes (suc k) = page_in (slice_index_or passes k None)
 
 abbrev pub queue_page : Desk → ℕ → Page (QueueNote Filling)
 queue_page desk queue = page_at desk.queues.items queue
+
+-- and what it knows of the clock
+abbrev pub clock_page : Desk → Page Made
+clock_page desk = page_in desk.clock
+
+-- the tick that the clock showed as the desk's pass saw it last
+abbrev pub shown_to : Desk → ℕ
+shown_to desk = now (past_in (noted_in (clock_page desk).seen))
 
 -- a look of the worker left the last stamp, or has that of an event that the worker noted
 abbrev pub IsGrounded : List Stamped → BoardNote → Type 0
@@ -102,6 +112,14 @@ pub record IsQueuePass (d : Domain) (w : WorkState) (k : ℕ) (pass : LockPass (
   pub own : noted_in (made_page (page_of pass)).own ≡ filter (stands_at d.setup d.clients (QueueHome (k + 1))) w.own
   pub reached : All (λ noted. noted.stamp.0 ≤ w.stamp.0) (events_at (page_of pass).seen)
 
+-- and of the clock: no tick that the worker read or made is greater than what the clock showed it last
+pub record IsClockPass (d : Domain) (w : WorkState) (pass : LockPass Made) : Type 0 where
+  pub lock : IsPassOf d.clock pass
+  pub maker : (page_of pass).maker ≡ w.id.0
+  pub own : noted_in (page_of pass).own ≡ filter (stands_at d.setup d.clients ClockHome) w.own
+  pub reached : All (λ noted. noted.stamp.0 ≤ w.stamp.0) (noted_in (page_of pass).seen)
+  pub floor : tick_floor w.clients w.id.0 (theirs w) ≤ now (past_in (noted_in (page_of pass).seen))
+
 abbrev pub IsThere : {E : Type 0} → (LockPass E → Type 0) → Option (LockPass E) → Type 0
 IsThere P None = ⊥
 IsThere P (Some pass) = P pass
@@ -114,6 +132,7 @@ pub record GoesOn (d : Domain) (whole : Whole) (desk : Desk) : Type 0 where
   pub sound : IsSoundBoard whole.board
   pub board : StartsWith whole.board.notes (board_page desk).seen
   pub queues : (queue : ℕ) → StartsWith (notes_of (whole.queues queue)) (queue_page desk queue).seen
+  pub clock : StartsWith whole.clock (clock_page desk).seen
   pub may : (queue : ℕ) → All (λ (made : Made). MayNote d.clients made.maker.0 made.noted.event) (whole.queues queue).queue.entries
   pub stand : StandAt d.setup d.clients (entries_of whole) desk.caller.work.own
   pub ended : (k : ℕ) → All (HasEnd (entries_of whole)) (at k (known desk.caller.seat)).taken
@@ -157,6 +176,7 @@ pub record IsDesk (d : Domain) (desk : Desk) : Type 0 where
   pub least : desk.caller.least ≤ published (past_in (changes_at (board_page desk).seen))
   pub count : length desk.queues.items ≡ length d.queues.items
   pub queues : (k : ℕ) → k < length d.queues.items → IsThere (IsQueuePass d desk.caller.work k) (slice_index_or desk.queues.items k None)
+  pub clock : IsThere (IsClockPass d desk.caller.work) desk.clock
   pub made : All (λ (x : Stamped). IsMade x.event) desk.caller.work.own
   pub among : All (λ (x : Stamped). IsAmong (length d.queues.items) (home_of d.setup d.clients x.event)) desk.caller.work.own
   pub filled : FilledByEnds desk.caller.work.own (known desk.caller.seat)

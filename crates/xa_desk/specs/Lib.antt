@@ -8,6 +8,7 @@ pub mod Found
 pub mod Looks
 pub mod Steps
 pub mod Advertising
+pub mod Ticking
 pub mod Parting
 pub mod Serving
 pub mod Passing
@@ -23,6 +24,7 @@ pub use Rattle.xa_server.specs.xa_queue
 pub use Rattle.xa_server.specs as xa_server
 pub use Rattle.xa_server.specs.xa_restart
 pub use Rattle.xa_board.specs as xa_board
+pub use Rattle.xa_ticks.specs as xa_ticks
 pub use Rattle.xa_server.specs.xa_held
 pub use Rattle.xa_server.specs.xa_frame
 pub use Rattle.xa_server.specs.xa_link

@@ -14,6 +14,7 @@ pub record IsLeft (done : Done) (desk : Desk) : Type 0 where
   pub shut : IsShut desk.caller.seat
   pub board : done.board ≡ desk.board
   pub queues : done.queues ≡ desk.queues
+  pub clock : done.clock ≡ desk.clock
   pub reader : done.reader ≡ desk.reader
 
 -- each event of a call that the worker noted is one of these calls still

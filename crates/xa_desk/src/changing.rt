@@ -162,7 +162,7 @@ impl Desk {
         }
     }
 
-    // Its caller's next call, which would change the board or the clock, is refused.
+    // Its caller's next call, which would change the board, is refused.
     fn refuse_change(
         &mut self,
         domain: &Domain,
@@ -305,11 +305,11 @@ impl Desk {
         }
     }
 
-    /// Its caller's next call, by which the board or the clock would change. A server changes a row of its own queue: it
+    /// Its caller's next call, by which the board would change. A server changes a row of its own queue: it
     /// advertises a service there with a routine, so that a row stands (tpadvertise), or withdraws it (tpunadvertise). TPEINVAL
     /// refuses a word that is no name; TPEMATCH a service whose row stands there with another routine; TPELIMIT a row beside 256
-    /// others; TPENOENT the withdrawal of what doesn't stand there. TPEPROTO refuses each change of a client, and each tick of a
-    /// server. Answers the error by which the call was refused, if it was.
+    /// others; TPENOENT the withdrawal of what doesn't stand there; TPEPROTO each change of a client. Answers the error by which
+    /// the call was refused, if it was.
     pub fn change<W: Wait>(
         &mut self,
         rt: &W,
@@ -322,7 +322,7 @@ impl Desk {
         requires active { MayCall self.old.caller }
         requires idle { self.old.caller.phase ≡ phases.Idle }
         requires turn { op ≡ self.old.caller.op + 1 }
-        requires kind { IsChange domain.now.clients self.old.caller.work.id.0 change.now }
+        requires kind { IsChange change.now }
         ensures moves { MovesAtBoard domain.now self.old self.new }
         ensures fits { FitsOp domain.now op change.now self.old self.new }
         ensures made { IfOk result (λ refused. ChangesAs op refused self.new.caller self.old.caller) }
@@ -339,7 +339,6 @@ impl Desk {
                 self.advertise(rt, domain, op, queue, service.slice(), routine.slice())
             }
             Op::Unadvertise(service) => self.unadvertise(rt, domain, op, queue, service.slice()),
-            Op::Tick(_) => self.refuse_role(domain, op),
             _ => unreachable!(),
         }
     }

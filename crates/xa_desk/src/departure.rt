@@ -13,7 +13,7 @@ use crate::domain::Domain;
 use xa_board::Reader;
 use xa_server::caller::{Filling, Left};
 use xa_server::held::{BoardNote, QueueNote};
-use xa_server::lock::LockPass;
+use xa_server::lock::{LockPass, Made};
 
 /// What a worker leaves behind: what its caller does, and its reader and passes.
 pub struct Done {
@@ -21,6 +21,7 @@ pub struct Done {
     pub reader: Reader,
     pub board: Option<LockPass<BoardNote>>,
     pub queues: Vec<Option<LockPass<QueueNote<Filling>>>>,
+    pub clock: Option<LockPass<Made>>,
 }
 
 impl Desk {
@@ -37,6 +38,7 @@ impl Desk {
             reader,
             board,
             queues,
+            clock,
         } = self;
         let left = caller.leave();
         Done {
@@ -44,6 +46,7 @@ impl Desk {
             reader,
             board,
             queues,
+            clock,
         }
     }
 
@@ -60,6 +63,7 @@ impl Desk {
             reader,
             board,
             queues,
+            clock,
         } = self;
         let left = caller.abandon(&domain.cells);
         Done {
@@ -67,6 +71,7 @@ impl Desk {
             reader,
             board,
             queues,
+            clock,
         }
     }
 }

@@ -12,16 +12,17 @@ use std::sync::Wait;
 use xa_board::Reader;
 use xa_server::caller::{Caller, Filling};
 use xa_server::held::{BoardNote, QueueNote};
-use xa_server::lock::LockPass;
+use xa_server::lock::{LockPass, Made};
 use xa_server::types::Name;
 
-/// What a worker has: its caller, its reader of the board, and its passes of the board and of each queue, which are there
-/// between its steps.
+/// What a worker has: its caller, its reader of the board, and its passes of the board, of each queue and of the clock, which
+/// are there between its steps.
 pub struct Desk {
     pub caller: Caller,
     pub reader: Reader,
     pub board: Option<LockPass<BoardNote>>,
     pub queues: Vec<Option<LockPass<QueueNote<Filling>>>>,
+    pub clock: Option<LockPass<Made>>,
 }
 
 impl Desk {

@@ -14,6 +14,7 @@ use xa_server::held::{KeptBoard, KeptQueue};
 use xa_server::lock::Guarded;
 use xa_server::types::{CallerId, QueueId, Setup, Stamp};
 use xa_server::work::Halt;
+use xa_ticks::Clock;
 
 /// What workers wait for: the servers of each queue, by its number, that something waits there or it is closed; callers, that
 /// a queue has room or isn't up any more; each caller, by its number, that it is answered; and clients before their first
@@ -28,7 +29,7 @@ pub struct Waits {
 }
 
 /// What all workers share: the setup, how many clients there are, the stamp of the boot's last event, the reply cells, the
-/// board and the queues under their locks, and where workers sleep.
+/// board, the queues and the clock under their locks, and where workers sleep.
 pub struct Domain {
     pub setup: Setup,
     pub shapes: Shapes,
@@ -37,6 +38,7 @@ pub struct Domain {
     pub cells: Cells<Filling>,
     pub board: Guarded<KeptBoard>,
     pub queues: Vec<Guarded<KeptQueue<Filling>>>,
+    pub clock: Guarded<Clock>,
     pub waits: Waits,
     pub halt: HaltWord,
 }

@@ -1,4 +1,5 @@
-//! What the workers of a domain share, and what one of them has: its caller, and its passes of the board and of the queues.
+//! What the workers of a domain share, and what one of them has: its caller, and its passes of the board, of the queues and of
+//! the clock.
 //! Each call here is one step of that worker, at a shared home or at its own. Its contract speaks of what the worker noted,
 //! saw and may tell, and of no other worker.
 #![tactic(auto)]
@@ -16,6 +17,7 @@ mod serving;
 mod setting;
 mod signal;
 mod stopped;
+mod ticking;
 mod visit;
 
 pub use calls::Unsent;
@@ -36,6 +38,10 @@ pub use xa_server::{
 
 pub mod board {
     pub use xa_board::{Board, Reader};
+}
+
+pub mod clock {
+    pub use xa_ticks::Clock;
 }
 
 // What xa_server itself has.

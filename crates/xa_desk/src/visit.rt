@@ -24,7 +24,7 @@ pub(crate) struct Visit {
     pub(crate) queue: Held<KeptQueue<Filling>>,
 }
 
-fn take_out<E>(pass: &mut Option<LockPass<E>>) -> LockPass<E>
+pub(crate) fn take_out<E>(pass: &mut Option<LockPass<E>>) -> LockPass<E>
     requires { IsSome pass.old }
     ensures was { pass.old ≡ Some result }
     ensures now { pass.new ≡ None }

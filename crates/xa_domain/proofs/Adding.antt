@@ -6,6 +6,7 @@ use Rattle.std.proofs.lemmas.Bool.{cases_lt, cases_eq}
 use Rattle.std.proofs.lemmas.List.{get_or_push, get_or_append_left, get_or-set_same, get_or-set_other, get_or_default, length-set, map-append}
 use Rattle.std.specs.declared.vec.Vec.{Vec}
 use Rattle.std.specs.declared.alloc.Global.{Global}
+use Rattle.xa_boot.specs.xa_lock.declared.makers.Made.{Made}
 use Rattle.xa_boot.specs.xa_lock.declared.pass.LockPass.{LockPass}
 use Rattle.xa_boot.specs.xa_cell.declared.tokens.Seat.{Seat}
 use Rattle.xa_boot.specs.xa_held.declared.kept_board.BoardNote.{BoardNote}
@@ -115,15 +116,17 @@ pub there_some : {E : Type 0} (P : LockPass E → Type 0) (pass : Option (LockPa
 there_some P None is = absurd is
 there_some P (Some p) is = refl
 
-pub adds_tokens : (seat : Seat Filling) (board : Option (LockPass BoardNote)) (queues : List (Option Pass)) (old new : Tokens) → new.seats.items ≡ old.seats.items ++ seat ∷ [] → vec_capacity new.seats ≡ vec_capacity old.seats
-    → IsThere (λ p. new.boards.items ≡ old.boards.items ++ p ∷ []) board → vec_capacity new.boards ≡ vec_capacity old.boards → AreAdded queues old.queues.items new.queues.items → AddsTokens seat board queues old new
-adds_tokens seat board queues old new seated seats boarded boards added = record {
+pub adds_tokens : (seat : Seat Filling) (board : Option (LockPass BoardNote)) (queues : List (Option Pass)) (clock : Option (LockPass Made)) (old new : Tokens) → new.seats.items ≡ old.seats.items ++ seat ∷ [] → vec_capacity new.seats ≡ vec_capacity old.seats
+    → IsThere (λ p. new.boards.items ≡ old.boards.items ++ p ∷ []) board → vec_capacity new.boards ≡ vec_capacity old.boards → AreAdded queues old.queues.items new.queues.items
+    → IsThere (λ p. new.clocks.items ≡ old.clocks.items ++ p ∷ []) clock → vec_capacity new.clocks ≡ vec_capacity old.clocks → AddsTokens seat board queues clock old new
+adds_tokens seat board queues clock old new seated seats boarded boards added clocked clocks = record {
   are = λ work n all so_far.
-      let l : Leaving = record { work = work; seat = seat; board = board; queues = queues } in
+      let l : Leaving = record { work = work; seat = seat; board = board; queues = queues; clock = clock } in
       let count = so_far.count in
       record {
         seats_are = seated ∙ ap (λ s. s ++ seat ∷ []) so_far.seats_are ∙ sym (map-append (λ (x : Leaving). x.seat) all (l ∷ []));
         boards_are = there_map old.boards.items new.boards.items board boarded ∙ ap (λ s. s ++ board ∷ []) so_far.boards_are ∙ sym (map-append (λ (x : Leaving). x.board) all (l ∷ []));
+        clocks_are = there_map old.clocks.items new.clocks.items clock clocked ∙ ap (λ s. s ++ clock ∷ []) so_far.clocks_are ∙ sym (map-append (λ (x : Leaving). x.clock) all (l ∷ []));
         count = added.count ∙ count;
         each = λ k d less.
             there_map (get_or old.queues.items k d).items (get_or new.queues.items k d).items (get_or queues k None) (added.each k d (omega (arith, less, count)))
@@ -132,13 +135,16 @@ adds_tokens seat board queues old new seated seats boarded boards added = record
   space = λ more room.
       let seats_room = room.seats_space in
       let boards_room = room.boards_space in
+      let clocks_room = room.clocks_space in
       let more_seats = ap length seated in
       let one_seat = length-append old.seats.items (seat ∷ []) in
       let one_board = there_more old.boards.items new.boards.items board boarded in
+      let one_clock = there_more old.clocks.items new.clocks.items clock clocked in
       let count = added.count in
       record {
         seats_space = omega (arith, seats_room, more_seats, one_seat, seats);
         boards_space = omega (arith, boards_room, one_board, boards);
+        clocks_space = omega (arith, clocks_room, one_clock, clocks);
         queues_space = λ k d less.
             let within : k < length old.queues.items = omega (arith, less, count) in
             let queue_room = room.queues_space k d within in
@@ -156,6 +162,7 @@ no_tokens queues workers t none =
     record {
       seats_are = none.seats_room.0;
       boards_are = ap (map Some) none.boards_room.0;
+      clocks_are = ap (map Some) none.clocks_room.0;
       count = count;
       each = λ k d less. ap (map Some) (none.queues_room k d (omega (arith, less, count))).0;
     }
@@ -167,6 +174,7 @@ pub token_space : (queues workers : ℕ) (t : Tokens) → AreNoTokens queues wor
 token_space queues workers t none = record {
   seats_space = empty_space workers t.seats none.seats_room.0 none.seats_room.1;
   boards_space = empty_space workers t.boards none.boards_room.0 none.boards_room.1;
+  clocks_space = empty_space workers t.clocks none.clocks_room.0 none.clocks_room.1;
   queues_space = λ k d less. let its = none.queues_room k d less in empty_space workers (get_or t.queues.items k d) its.0 its.1;
 }
 
@@ -174,9 +182,11 @@ pub less_space : (n m : ℕ) (t : Tokens) → n ≤ m → HasTokenSpace m t → 
 less_space n m t less room =
     let seats = room.seats_space in
     let boards = room.boards_space in
+    let clocks = room.clocks_space in
     record {
       seats_space = omega (arith, less, seats);
       boards_space = omega (arith, less, boards);
+      clocks_space = omega (arith, less, clocks);
       queues_space = λ k d within. let its = room.queues_space k d within in omega (arith, less, its);
     }
 

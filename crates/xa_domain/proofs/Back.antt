@@ -10,6 +10,7 @@ use Rattle.xa_boot.specs.xa_types.Setup.{numbered, queue_of}
 use Rattle.xa_boot.specs.xa_events.Words.{EachNumbered}
 use Rattle.xa_boot.specs.xa_stamp.declared.home.Stamped.{Stamped}
 use Rattle.xa_boot.specs.xa_stamp.Home.{Notes}
+use Rattle.xa_boot.specs.xa_lock.Known.{IsPassOf}
 use Rattle.xa_boot.specs.xa_cell.declared.tokens.Seat.{Seat}
 use Rattle.xa_boot.specs.xa_cell.declared.view.Part.{Part}
 use Rattle.xa_boot.specs.xa_worker.Ending.{list_in}
@@ -24,7 +25,7 @@ use Rattle.xa_boot.specs.xa_desk.declared.domain.Domain.{Domain}
 use Rattle.xa_boot.specs.xa_desk.declared.desk.Desk.{Desk}
 use Rattle.xa_boot.specs.xa_desk.declared.stopped.Stopped.{Stopped}
 use Rattle.xa_boot.specs.xa_desk.declared.stopped.Stopped.TheVariants.{Here, Elsewhere}
-use Rattle.xa_boot.specs.xa_desk.Desks.{Shows}
+use Rattle.xa_boot.specs.xa_desk.Desks.{IsClockPass, Shows}
 use Rattle.xa_boot.specs.xa_desk.Whole.{IsKnown}
 use Rattle.xa_history.specs.Served.{HoldAll}
 use Rattle.xa_boot.specs.xa_server_worker.Working.{cut_in}
@@ -32,7 +33,7 @@ use Rattle.xa_boot.specs.xa_pipe.Standing.{Ending}
 use Rattle.std.specs.declared.vec.Vec.{Vec}
 use Rattle.std.specs.declared.alloc.Global.{Global}
 use Rattle.xa_boot.specs.declared.booting.Booted.{Booted}
-use Rattle.xa_boot.specs.Booting.{work_of}
+use Rattle.xa_boot.specs.Booting.{IsClockFor, work_of}
 use Rattle.xa_history.specs.Joined.{Back, AllLeft, HasLeft, whole_of}
 use Rattle.xa_history.specs.Ended.{ServerEnd, HasMadeAll}
 use Rattle.xa_history.proofs.Listed.{all_mapped, all_numbered, numbered_map}
@@ -44,6 +45,7 @@ use Rattle.xa_domain.specs.Gathered.{IsLeftDesk, home_of_desk, HoldTheirs, IsHal
 use Rattle.xa_domain.specs.Handed.{halt_of, HandsBack}
 use Rattle.xa_domain.specs.Joined.{end_of, IsJoined}
 use Rattle.xa_domain.specs.Leaving.{Leaving, IsLeaving, AreAllTokens, itself_of, leaving_of}
+use Rattle.xa_domain.proofs.Listed.{there-weaker}
 use Rattle.xa_domain.proofs.Taking.{shows_weaker}
 use Rattle.xa_domain.proofs.Itself.{is_booted, goes_on, is_itself, all_closed}
 
@@ -120,7 +122,7 @@ module _ {L T : Type 0} (shows : T → StarterShows) (scripts : List Client) (bo
   its_own : IsLeaving d (itself_of d booted.closer)
   its_own =
       let is = joined.closed.is in
-      record { seat_of = is.seat; shut = record { asked = λ k. ap (λ (p : Part Filling). p.asked) (is.fresh.parts k) }; board_pass = is.board; queue_passes = is.queues }
+      record { seat_of = is.seat; shut = record { asked = λ k. ap (λ (p : Part Filling). p.asked) (is.fresh.parts k) }; board_pass = is.board; queue_passes = is.queues; clock_pass = there-weaker (IsClockFor d.clock 0) (IsPassOf d.clock) (λ pass it. it.lock_is) booted.closer.clock is.clock }
 
   module _ (g : Gathered L T) (gathered : HasGathered d shows scripts booted.clients.items booted.servers.items booted.closer g) where
     abbrev desks : List Desk
@@ -136,7 +138,7 @@ module _ {L T : Type 0} (shows : T → StarterShows) (scripts : List Client) (bo
     leaving_at : (k : ℕ) (desk : Desk) → numbered k desks ≡ Some desk → IsLeaving d (leaving_of desk)
     leaving_at k desk is =
         let its = desk_at k desk is in
-        record { seat_of = its.is.seat; shut = its.shut; board_pass = its.is.board; queue_passes = its.is.queues }
+        record { seat_of = its.is.seat; shut = its.shut; board_pass = its.is.board; queue_passes = its.is.queues; clock_pass = there-weaker (IsClockPass d desk.caller.work) (IsPassOf d.clock) (λ pass it. it.lock) desk.clock its.is.clock }
 
     pub all_tokens : AreAllTokens d (itself_of d booted.closer) (map leaving_of gathered.desks) g.tokens
     all_tokens =
@@ -172,7 +174,7 @@ module _ {L T : Type 0} (shows : T → StarterShows) (scripts : List Client) (bo
       left_at k desk is =
           let its = desk_at k desk is in
           let knows = knows_at k desk is in
-          record { is = its.is; sound = its.sound; board = knows.board_known; queues = knows.queues_known; home = home_at k desk is }
+          record { is = its.is; sound = its.sound; board = knows.board_known; queues = knows.queues_known; clock = knows.clock_known; home = home_at k desk is }
 
       hold_theirs : HoldTheirs d desks (whole_of d b)
       hold_theirs = all_by_number (λ (desk : Desk). All (Contains ((whole_of d b).callers desk.caller.work.id.0)) (home_of_desk d desk)) desks
@@ -195,6 +197,8 @@ module _ {L T : Type 0} (shows : T → StarterShows) (scripts : List Client) (bo
         booted = is_booted d booted.closer b joined.closed.is gives.itself_known;
         queues = gives.count;
         each = gives.each;
+        clock = gives.clock;
+        movers = gives.movers;
         seat = gives.seat;
         seats = gives.seats_are ∙ ap (λ (l : List (Seat Filling)). gives.seat ∷ l) (seats_map desks);
         silent = gives.silent;

@@ -10,7 +10,7 @@ use Rattle.xa_boot.specs.xa_stamp.declared.home.Stamped.{Stamped}
 use Rattle.xa_boot.specs.xa_stamp.Home.{Notes}
 use Rattle.xa_boot.specs.xa_lock.declared.pass.LockPass.{LockPass}
 use Rattle.xa_boot.specs.xa_lock.Known.{known as page_of, IsPassOf, passes_of}
-use Rattle.xa_boot.specs.xa_lock.Makers.{noted_in}
+use Rattle.xa_boot.specs.xa_lock.Makers.{maker_of as move_maker, noted_in}
 use Rattle.xa_boot.specs.xa_lock.Pages.{Knows}
 use Rattle.xa_boot.specs.xa_worker.Ending.{workers_of}
 use Rattle.xa_boot.specs.xa_cell.declared.tokens.Seat.{Seat}
@@ -20,6 +20,7 @@ use Rattle.xa_boot.specs.xa_cell.Law.{Answered}
 use Rattle.xa_boot.specs.xa_cell.Places.{IsShut}
 use Rattle.xa_boot.specs.xa_board.Board.{ReadsAsNoted as BoardReads}
 use Rattle.xa_boot.specs.xa_held.declared.kept_queue.QueueNote.{QueueNote}
+use Rattle.xa_boot.specs.xa_ticks.Clock.{ClockState, ReadsAsNoted as ClockReads, made_in as moves_in}
 use Rattle.xa_boot.specs.xa_held.Board.{Held, IsSoundBoard, made_in, maker_of as change_maker}
 use Rattle.xa_boot.specs.xa_held.Kept.{Kept, setting_of, notes_of}
 use Rattle.xa_boot.specs.xa_held.Notes.{maker_of}
@@ -28,6 +29,7 @@ use Rattle.xa_boot.specs.xa_desk.declared.domain.Domain.{Domain}
 use Rattle.xa_boot.specs.xa_desk.Desks.{IsDomain, IsBoardPass, IsQueuePass, IsSettingOf, IsThere}
 use Rattle.xa_boot.specs.Booting.{IsDealt}
 use Rattle.xa_history.specs.Joined.{Back, IsQueueOf, whole_of, no_queue, kept_or}
+use Rattle.xa_history.proofs.Left.{bare_moves}
 use Rattle.xa_domain.specs.declared.tokens.Tokens.{Tokens}
 use Rattle.xa_domain.specs.Leaving.{Leaving, IsLeaving, AreAllTokens}
 use Rattle.xa_domain.specs.Closed.{KnowsHomes, GivesBack}
@@ -75,6 +77,14 @@ module _ (d : Domain) (dealt : IsDealt d) (itself : Leaving) (others : List Leav
 
   pub board_count : length t.boards.items ≡ passes_of d.board
   board_count = same_count (λ (l : Leaving). l.board) t.boards.items everyone all.tokens_are.boards_are ∙ count ∙ sym dealt.board
+
+  -- ---- the clock's lock
+
+  pub clock_lock : All (IsPassOf d.clock) t.clocks.items
+  clock_lock = all_passes (IsPassOf d.clock) (λ (l : Leaving). l.clock) t.clocks.items everyone all.tokens_are.clocks_are (All-weaker (IsLeaving d) (λ (l : Leaving). IsThere (IsPassOf d.clock) l.clock) (λ l is. is.clock_pass) everyone each_is)
+
+  pub clock_count : length t.clocks.items ≡ passes_of d.clock
+  clock_count = same_count (λ (l : Leaving). l.clock) t.clocks.items everyone all.tokens_are.clocks_are ∙ count ∙ sym dealt.clock
 
   -- ---- the cells
 
@@ -135,9 +145,9 @@ module _ (d : Domain) (dealt : IsDealt d) (itself : Leaving) (others : List Leav
 
   -- ---- what they give back
 
-  module _ (domain : IsDomain d) (callers : List Notes) (board : Held) (kepts : List (Kept Filling)) (seat : Seat Filling) (seats : List (Seat Filling)) (kept_count : length kepts ≡ length d.queues.items) (closed : Close d.queues.items t.queues.items kepts) where
+  module _ (domain : IsDomain d) (callers : List Notes) (board : Held) (kepts : List (Kept Filling)) (clock : ClockState) (seat : Seat Filling) (seats : List (Seat Filling)) (kept_count : length kepts ≡ length d.queues.items) (closed : Close d.queues.items t.queues.items kepts) where
     abbrev b : Back
-    b = record { board = board; queues = kepts; own = map (λ (notes : Notes). notes.entries) callers; seats = seats }
+    b = record { board = board; queues = kepts; clock = clock; own = map (λ (notes : Notes). notes.entries) callers; seats = seats }
 
     -- the queue is as it was closed
     at_place : (k : ℕ) (default : Kept Filling) → k < length kepts → (whole_of d b).queues (k + 1) ≡ get_or kepts k default
@@ -174,16 +184,19 @@ module _ (d : Domain) (dealt : IsDealt d) (itself : Leaving) (others : List Leav
     each_queue : (queue : ℕ) (kept : Kept Filling) → numbered queue kepts ≡ Some kept → IsQueueOf d queue kept
     each_queue queue kept there = let at = number_of kepts queue kept there in let low = at.2 in is_queue at.0 (omega (arith, low, kept_count)) queue kept at.1 at.3
 
-    module _ (board_known : All (λ pass. Knows change_maker (page_of pass) board.notes) t.boards.items) where
+    module _ (board_known : All (λ pass. Knows change_maker (page_of pass) board.notes) t.boards.items) (clock_known : All (λ pass. Knows move_maker (page_of pass) (moves_in clock.entries)) t.clocks.items) where
       boards_known : All (λ (l : Leaving). IsThere (λ pass. Knows change_maker (page_of pass) board.notes) l.board) everyone
       boards_known = each_pass (λ pass. Knows change_maker (page_of pass) board.notes) (λ (l : Leaving). l.board) t.boards.items everyone all.tokens_are.boards_are board_known
 
-      knows_homes : All (KnowsHomes d b) everyone
-      knows_homes j l low = record { board_known = boards_known j l low; queues_known = λ k within. queues_known k within j l low }
+      clocks_known : All (λ (l : Leaving). IsThere (λ pass. Knows move_maker (page_of pass) (moves_in clock.entries)) l.clock) everyone
+      clocks_known = each_pass (λ pass. Knows move_maker (page_of pass) (moves_in clock.entries)) (λ (l : Leaving). l.clock) t.clocks.items everyone all.tokens_are.clocks_are clock_known
 
-      pub gives_back : (homes : List Notes) → IsSoundBoard board → BoardReads board.board → All (λ note. change_maker note < passes_of d.board) board.notes → seats ≡ seat ∷ map (λ (l : Leaving). l.seat) others → IsSilent d.cells seat → ((k : ℕ) → Answered k seats)
-          → length callers ≡ d.clients + length d.setup.servers → notes_in homes ≡ board.board.entries ∷ (noted_at kepts ++ [] ∷ notes_in callers) → GivesBack d itself others callers b homes
-      gives_back homes sound reads makers seats_are silent answered own hold = record {
+      knows_homes : All (KnowsHomes d b) everyone
+      knows_homes j l low = record { board_known = boards_known j l low; queues_known = λ k within. queues_known k within j l low; clock_known = clocks_known j l low }
+
+      pub gives_back : (homes : List Notes) → IsSoundBoard board → BoardReads board.board → All (λ note. change_maker note < passes_of d.board) board.notes → ClockReads clock → All (λ move. move_maker move < passes_of d.clock) (moves_in clock.entries) → seats ≡ seat ∷ map (λ (l : Leaving). l.seat) others → IsSilent d.cells seat → ((k : ℕ) → Answered k seats)
+          → length callers ≡ d.clients + length d.setup.servers → notes_in homes ≡ board.board.entries ∷ (noted_at kepts ++ clock.entries ∷ notes_in callers) → GivesBack d itself others callers b homes
+      gives_back homes sound reads makers moved movers seats_are silent answered own hold = record {
         itself_known = All-head (KnowsHomes d b) itself others knows_homes;
         others_known = All-tail (KnowsHomes d b) itself others knows_homes;
         own_are = refl;
@@ -192,6 +205,8 @@ module _ (d : Domain) (dealt : IsDealt d) (itself : Leaving) (others : List Leav
         makers = subst (λ n. All (λ note. change_maker note < n) board.notes) dealt.board makers;
         count = kept_count ∙ domain.queues;
         each = each_queue;
+        clock = moved;
+        movers = subst (λ n. All (λ move. move_maker move < n) (moves_in clock.entries)) dealt.clock movers;
         seat = seat;
         seats_are = seats_are;
         silent = silent.silent;
@@ -199,18 +214,20 @@ module _ (d : Domain) (dealt : IsDealt d) (itself : Leaving) (others : List Leav
         hold = record {
           all_queues = length-map kepts (λ (kept : Kept Filling). kept.queue.entries) ∙ kept_count ∙ domain.queues;
           all_callers = length-map callers (λ (notes : Notes). notes.entries) ∙ own;
-          hold = hold ∙ ap (λ (l : List Stamped). l ∷ (noted_at kepts ++ [] ∷ notes_in callers)) (sym sound.noted) ∙ ap (λ (l : List (List Stamped)). noted_in (made_in board.notes) ∷ (l ++ [] ∷ notes_in callers)) (noted_twice kepts);
+          hold =
+              hold ∙ ap (λ (l : List Stamped). l ∷ (noted_at kepts ++ clock.entries ∷ notes_in callers)) (sym sound.noted) ∙ ap (λ (l : List (List Stamped)). noted_in (made_in board.notes) ∷ (l ++ clock.entries ∷ notes_in callers)) (noted_twice kepts)
+              ∙ ap (λ (l : List Stamped). noted_in (made_in board.notes) ∷ (map noted_in (map (λ (kept : Kept Filling). kept.queue.entries) kepts) ++ l ∷ notes_in callers)) (sym (bare_moves clock.entries));
         };
       }
 
 -- the homes in their order
-pub in_order : (none h1 h2 h3 homes callers : List Notes) (board clock : Notes) (entries : List Stamped) (kepts : List (Kept Filling)) → none ≡ [] → h1 ≡ none ++ board ∷ [] → board.entries ≡ entries → notes_in h2 ≡ notes_in h1 ++ noted_at kepts → h3 ≡ h2 ++ clock ∷ [] → clock.entries ≡ [] → homes ≡ h3 ++ callers
-    → notes_in homes ≡ entries ∷ (noted_at kepts ++ [] ∷ notes_in callers)
-in_order none h1 h2 h3 homes callers board clock entries kepts empty first is second third nothing fourth =
+pub in_order : (none h1 h2 h3 homes callers : List Notes) (board clock : Notes) (entries moves : List Stamped) (kepts : List (Kept Filling)) → none ≡ [] → h1 ≡ none ++ board ∷ [] → board.entries ≡ entries → notes_in h2 ≡ notes_in h1 ++ noted_at kepts → h3 ≡ h2 ++ clock ∷ [] → clock.entries ≡ moves → homes ≡ h3 ++ callers
+    → notes_in homes ≡ entries ∷ (noted_at kepts ++ moves ∷ notes_in callers)
+in_order none h1 h2 h3 homes callers board clock entries moves kepts empty first is second third moved fourth =
     let one : notes_in h1 ≡ entries ∷ [] = ap notes_in (first ∙ ap (λ (l : List Notes). l ++ board ∷ []) empty) ∙ ap (λ (e : List Stamped). e ∷ []) is in
     let two : notes_in h2 ≡ entries ∷ noted_at kepts = second ∙ ap (λ (l : List (List Stamped)). l ++ noted_at kepts) one in
-    let three : notes_in h3 ≡ (entries ∷ noted_at kepts) ++ [] ∷ [] = ap notes_in third ∙ map-append entries_of h2 (clock ∷ []) ∙ ap (λ (l : List (List Stamped)). l ++ clock.entries ∷ []) two ∙ ap (λ (e : List Stamped). (entries ∷ noted_at kepts) ++ e ∷ []) nothing in
-    ap notes_in fourth ∙ map-append entries_of h3 callers ∙ ap (λ (l : List (List Stamped)). l ++ notes_in callers) three ∙ append_assoc (entries ∷ noted_at kepts) ([] ∷ []) (notes_in callers)
+    let three : notes_in h3 ≡ (entries ∷ noted_at kepts) ++ moves ∷ [] = ap notes_in third ∙ map-append entries_of h2 (clock ∷ []) ∙ ap (λ (l : List (List Stamped)). l ++ clock.entries ∷ []) two ∙ ap (λ (e : List Stamped). (entries ∷ noted_at kepts) ++ e ∷ []) moved in
+    ap notes_in fourth ∙ map-append entries_of h3 callers ∙ ap (λ (l : List (List Stamped)). l ++ notes_in callers) three ∙ append_assoc (entries ∷ noted_at kepts) (moves ∷ []) (notes_in callers)
 
 -- how many there are
 pub one_longer : (homes more : List Notes) (home : Notes) → more ≡ homes ++ home ∷ [] → length more ≡ length homes + 1

@@ -13,17 +13,19 @@ use Rattle.xa_boot.specs.xa_events.Homes.{home_of}
 use Rattle.xa_boot.specs.xa_events.Homes.Home.{BoardHome, QueueHome}
 use Rattle.xa_boot.specs.xa_events.Queue.{is_closed, is_close_of}
 use Rattle.xa_boot.specs.xa_stamp.declared.home.Stamped.{Stamped}
+use Rattle.xa_boot.specs.xa_lock.declared.makers.Made.{Made}
 use Rattle.xa_boot.specs.xa_lock.declared.pass.LockPass.{LockPass}
 use Rattle.xa_boot.specs.xa_lock.declared.pass.Page.{Page}
 use Rattle.xa_boot.specs.xa_lock.Known.{known as page_of}
-use Rattle.xa_boot.specs.xa_lock.Makers.{noted_in}
-use Rattle.xa_boot.specs.xa_lock.Pages.{Knows, StartsWith, first_page}
+use Rattle.xa_boot.specs.xa_lock.Makers.{maker_of as move_maker, noted_in}
+use Rattle.xa_boot.specs.xa_lock.Pages.{Knows, StartsWith, entries_by, first_page}
 use Rattle.xa_boot.specs.xa_worker.Crew.{IsBooted, stands_at}
 use Rattle.xa_boot.specs.xa_worker.Seen.{past_in}
 use Rattle.xa_boot.proofs.xa_worker.Lists.{past_in-append, filter-none, same_home-is}
 use Rattle.xa_boot.specs.xa_held.declared.kept_board.BoardNote.{BoardNote}
 use Rattle.xa_boot.specs.xa_held.declared.kept_queue.QueueNote.{QueueNote}
 use Rattle.xa_boot.specs.xa_held.declared.kept_queue.QueueNote.TheVariants.{Opened}
+use Rattle.xa_boot.specs.xa_ticks.Clock.{made_in as moves_in}
 use Rattle.xa_boot.specs.xa_held.Board.{IsSoundBoard, maker_of as change_maker}
 use Rattle.xa_boot.specs.xa_held.Joins.{changes_at, changes_page, events_at}
 use Rattle.xa_boot.specs.xa_held.Kept.{Kept, notes_of, setting_of}
@@ -36,7 +38,7 @@ use Rattle.xa_boot.specs.xa_desk.declared.domain.Domain.{Domain}
 use Rattle.xa_boot.specs.xa_desk.Desks.{IsAmong, IsBoardPass, IsGrounded, IsQueuePass, IsThere, Shows, page_in, page_at}
 use Rattle.xa_boot.specs.xa_client_worker.declared.working.ClientWorker.{ClientWorker}
 use Rattle.xa_boot.specs.declared.closer.Closer.{Closer}
-use Rattle.xa_boot.specs.Booting.{work_of}
+use Rattle.xa_boot.specs.Booting.{IsClockFor, work_of}
 use Rattle.xa_history.specs.Joined.{Back, whole_of, kept_or, no_queue, IsDomainOf, IsQueueOf}
 use Rattle.xa_history.proofs.Listed.{none_past}
 use Rattle.xa_boot.proofs.xa_cell.Lists.{below}
@@ -115,6 +117,13 @@ module _ (d : Domain) (closer : Closer) (b : Back) (is : IsCloser d closer) (kno
   pub goes_on : (clients : List ClientWorker) → IsSoundBoard b.board → All (KeepsItsOwn d (whole_of d b)) clients → GoesOnFor d clients (whole_of d b) closer
   goes_on clients sound own = record { sound = sound; board = board_begins; queues = queue_begins; own = own }
 
+  -- it never moved the clock
+  never_moved : entries_by move_maker 0 (moves_in b.clock.entries) ≡ []
+  never_moved =
+      let its = both_there (IsClockFor d.clock 0) (λ pass. Knows move_maker (page_of pass) (moves_in b.clock.entries)) closer.clock is.clock known.clock_known in
+      let page : page_of its.0 ≡ first_page 0 [] = its.1.page in
+      (subst (λ (p : Page Made). Knows move_maker p (moves_in b.clock.entries)) page its.2).0
+
   -- ---- its pages, also of queues that aren't there
 
   -- a page of the queue that knows what was given back, and has what the domain noted there
@@ -168,6 +177,7 @@ module _ (d : Domain) (closer : Closer) (b : Back) (is : IsCloser d closer) (kno
       pages = λ queue. (each_page queue).maker_is;
       knows = λ queue. (each_page queue).knows_it;
       at_queue = λ queue. (each_page queue).own_is;
+      at_clock = never_moved;
     }
 
   -- ---- the closing

@@ -22,6 +22,9 @@ use Rattle.xa_boot.specs.xa_lock.contracts.pass.LockPass as LockPass
 use Rattle.xa_boot.proofs.xa_lock.pass.LockPass.TheSendSync as pass
 use Rattle.xa_boot.specs.xa_held.contracts.kept_board.BoardNote as BoardNote
 use Rattle.xa_boot.specs.xa_held.contracts.kept_queue.QueueNote as QueueNote
+use Rattle.xa_boot.specs.xa_lock.contracts.makers.Made as Made
+use Rattle.xa_ticks.specs.contracts.clock.Clock as Clock
+use Rattle.xa_ticks.proofs.clock.Clock.TheSendSync as clock
 use Rattle.xa_boot.proofs.xa_board.reader.Reader.TheSendSync as reader
 use Rattle.xa_boot.proofs.xa_types.setup.Setup.TheSendSync as setup
 use Rattle.xa_boot.proofs.xa_buffer.shapes.Shapes.TheSendSync as shapes
@@ -64,6 +67,9 @@ board_pass_sends = pass.the_send BoardNote.the_row
 queue_pass_sends : IsSend (LockPass.the_row (QueueNote.the_row Filling.the_row))
 queue_pass_sends = pass.the_send (QueueNote.the_row Filling.the_row)
 
+clock_pass_sends : IsSend (LockPass.the_row Made.the_row)
+clock_pass_sends = pass.the_send Made.the_row
+
 phase_field : IsSend (Phase.the_field).row
 phase_field = search (sendable, crosses) depth 40 fits 20000
 
@@ -74,7 +80,7 @@ left_field : IsSend (Left.the_field).row
 left_field = struct_send (declared.shape Left.the_type) (work_sends, (seat_field, (search (sendable, crosses, halt.the_send) depth 40 fits 20000, tt)))
 
 done_field : IsSend (Done.the_field).row
-done_field = struct_send (declared.shape Done.the_type) (left_field, (reader.the_send, (search (sendable, crosses, board_pass_sends) depth 40 fits 20000, (search (sendable, crosses, queue_pass_sends) depth 40 fits 20000, tt))))
+done_field = struct_send (declared.shape Done.the_type) (left_field, (reader.the_send, (search (sendable, crosses, board_pass_sends) depth 40 fits 20000, (search (sendable, crosses, queue_pass_sends) depth 40 fits 20000, (search (sendable, crosses, clock_pass_sends) depth 40 fits 20000, tt)))))
 
 pub stopped_sends : IsSend Stopped.the_row
 stopped_sends = search (sendable, crosses) depth 40 fits 20000
@@ -83,7 +89,7 @@ ended_field : IsSend (Ended.the_field).row
 ended_field = struct_send (declared.shape Ended.the_type) (done_field, (search (sendable, crosses, stopped_sends) depth 40 fits 20000, tt))
 
 pub desk_field : IsSend (Desk.the_field).row
-desk_field = struct_send (declared.shape Desk.the_type) (caller_sends, (reader.the_send, (search (sendable, crosses, board_pass_sends) depth 40 fits 20000, (search (sendable, crosses, queue_pass_sends) depth 40 fits 20000, tt))))
+desk_field = struct_send (declared.shape Desk.the_type) (caller_sends, (reader.the_send, (search (sendable, crosses, board_pass_sends) depth 40 fits 20000, (search (sendable, crosses, queue_pass_sends) depth 40 fits 20000, (search (sendable, crosses, clock_pass_sends) depth 40 fits 20000, tt)))))
 
 client_worker_field : IsSend (ClientWorker.the_field).row
 client_worker_field = enum_send (declared_enum.shape ClientWorker.the_type) ((desk_field, tt), (tt, ((ended_field, tt), tt)))
@@ -103,8 +109,11 @@ cargo_sends = search (sendable, crosses, ticket.the_field_send, invocation_field
 kept_queue_sends : IsSend (KeptQueue.the_row Filling.the_row)
 kept_queue_sends = search (sendable, crosses, queue.the_send, cargo_sends) depth 30 fits 4000
 
+clock_sends : IsSend Clock.the_row
+clock_sends = clock.the_send
+
 pub domain_field : IsSync (Domain.the_field).row
-domain_field = struct_sync (declared.shape Domain.the_type) (search (sendable, crosses, setup.the_field_sync) depth 40 fits 20000, (search (sendable, crosses, shapes.the_sync) depth 40 fits 20000, (search (sendable, crosses) depth 40 fits 20000, (search (sendable, crosses) depth 40 fits 20000, (search (sendable, crosses, cells.the_field_sync, filling_sends) depth 40 fits 20000, (search (sendable, crosses, guarded.the_field_sync, kept_board_sends) depth 40 fits 20000, (search (sendable, crosses, guarded.the_field_sync, kept_queue_sends) depth 40 fits 20000, (search (sendable, crosses, waits.the_field_sync) depth 40 fits 20000, (search (sendable, crosses, halt_word.the_field_sync) depth 40 fits 20000, tt)))))))))
+domain_field = struct_sync (declared.shape Domain.the_type) (search (sendable, crosses, setup.the_field_sync) depth 40 fits 20000, (search (sendable, crosses, shapes.the_sync) depth 40 fits 20000, (search (sendable, crosses) depth 40 fits 20000, (search (sendable, crosses) depth 40 fits 20000, (search (sendable, crosses, cells.the_field_sync, filling_sends) depth 40 fits 20000, (search (sendable, crosses, guarded.the_field_sync, kept_board_sends) depth 40 fits 20000, (search (sendable, crosses, guarded.the_field_sync, kept_queue_sends) depth 40 fits 20000, (search (sendable, crosses, guarded.the_field_sync, clock_sends) depth 40 fits 20000, (search (sendable, crosses, waits.the_field_sync) depth 40 fits 20000, (search (sendable, crosses, halt_word.the_field_sync) depth 40 fits 20000, tt))))))))))
 
 pub domain_syncs : IsSync Domain.the_row
 domain_syncs = recorded_sync (Struct (declared.shape Domain.the_type)) (Domain.the_type).D (Domain.the_type).to (Domain.the_type).to_one domain_field
@@ -116,7 +125,10 @@ closer_field = struct_send (declared.shape Closer.the_type) (
     search (sendable, crosses, board_pass_sends) depth 40 fits 20000,
     (
       search (sendable, crosses, queue_pass_sends) depth 40 fits 20000,
-      (own_sends, (search (sendable, stamp.the_send) depth 40 fits 20000, (search (sendable, crosses, halt.the_send) depth 40 fits 20000, tt))),
+      (
+        search (sendable, crosses, clock_pass_sends) depth 40 fits 20000,
+        (own_sends, (search (sendable, stamp.the_send) depth 40 fits 20000, (search (sendable, crosses, halt.the_send) depth 40 fits 20000, tt))),
+      ),
     ),
   ),
 )

@@ -54,7 +54,7 @@ use Rattle.xa_boot.proofs.xa_desk.Leading.{AllMade, Grew, none_made, one_made, a
 use Rattle.xa_boot.proofs.xa_desk.Visiting.{QueuePass, QueueLock, stamp_is, last_known, larger_known, behind_known}
 use Rattle.xa_boot.specs.xa_client_worker.declared.working.ClientWorker.{ClientWorker}
 use Rattle.xa_boot.specs.declared.closer.Closer.{Closer}
-use Rattle.xa_boot.specs.Booting.{work_of}
+use Rattle.xa_boot.specs.Booting.{IsClockFor, work_of}
 use Rattle.xa_history.specs.xa_script.declared.script.Client.{Client}
 use Rattle.xa_domain.specs.Working.{EachDone}
 use Rattle.xa_domain.specs.Closing.{IsCloser, GoesOnFor, HasLeftBy, IsBehindAll, ShowsFor, AreClosed, Closes, IsWornOut, IsHaltBy, HasClosed}
@@ -106,12 +106,13 @@ pub record Step (d : Domain) (place : ℕ) (old new : Closer) (p p' : QueuePass)
   pub reaches : Reaches (page_of p') last
   pub seat : new.seat ≡ old.seat
   pub board : new.board ≡ old.board
+  pub clock : new.clock ≡ old.clock
   pub seen : new.seen.0 ≡ max old.seen.0 last.0
   pub halt : new.halt ≡ old.halt
 
 -- by what takes the pass, enters the lock that stands there, and puts the pass back
 abbrev pub after : Closer → ℕ → Option QueuePass → QueuePass → List Stamped → ℕ → Closer
-after old place middle p' own seen = record { seat = old.seat; board = old.board; queues = with_item (with_item old.queues place middle) place (Some p'); own = own; seen = record { 0 = seen }; halt = old.halt }
+after old place middle p' own seen = record { seat = old.seat; board = old.board; queues = with_item (with_item old.queues place middle) place (Some p'); clock = old.clock; own = own; seen = record { 0 = seen }; halt = old.halt }
 
 pub stepped : {d : Domain} {place : ℕ} {old : Closer} {p p' : QueuePass} {last : Stamp} (own : List Stamped) (seen : ℕ) (found taken middle : Option QueuePass) → IsCloser d old → place < length d.queues.items → found ≡ slice_index_or old.queues.items place found → taken ≡ found → taken ≡ Some p → seen ≡ max old.seen.0 last.0
     → (lock : QueueLock) → lock ≡ slice_index_or d.queues.items place lock → IsPassOf lock p' → Reaches (page_of p') last → Step d place old (after old place middle p' own seen) p p' last
@@ -124,6 +125,7 @@ stepped {d} {place} {old} {p} {p'} {last} own seen found taken middle is low at 
   reaches = reaches;
   seat = refl;
   board = refl;
+  clock = refl;
   seen = saw;
   halt = refl;
 }
@@ -244,6 +246,7 @@ module _ {d : Domain} {place : ℕ} {old new : Closer} {p p' : QueuePass} {last 
             until = subst (λ o. All (λ (x : Stamped). x.stamp.0 ≤ d.booted.0) (changes_at (page_in o).seen)) (sym step.board) is.until;
             count = ap length step.passes ∙ length-set old.queues.items place (Some p') ∙ is.count;
             queues = passes_stay;
+            clock = subst (IsThere (IsClockFor d.clock 0)) (sym step.clock) is.clock;
             work = work;
             made = made_more w w' (noted_in more) grew is.made;
             among = among_more d w w' (noted_in more) grew (among_at d (QueueHome (place + 1)) (noted_in more) (omega arith, omega (arith, low)) home) is.among;
@@ -365,6 +368,7 @@ module _ {d : Domain} {clients : List ClientWorker} {old : Closer} {last : Stamp
         until = is.until;
         count = is.count;
         queues = λ k low. there d (IsQueuePass d (work_of d old) k) (IsQueuePass d (work_of d seeing) k) (slice_index_or old.queues.items k None) (queue_pass_stays d (work_of d old) (work_of d seeing) [] grew_seeing k (All-nil (λ (x : Stamped). stands_at d.setup d.clients (QueueHome (k + 1)) x ≡ false))) (is.queues k low);
+        clock = is.clock;
         work = is.work;
         made = is.made;
         among = is.among;
@@ -386,7 +390,7 @@ same_halt clients closer halt (halts.Worn stamp) is = is
 
 pub has_halted : {d : Domain} {clients : List ClientWorker} (closer : Closer) (why : Halt) → IsHaltBy clients closer why → IsCloser d closer → ShowsFor d clients closer → HasClosed d clients (record closer { halt = Some why })
 has_halted {d} {clients} closer why by is shows = record {
-  is = record { seat = is.seat; fresh = is.fresh; board = is.board; until = is.until; count = is.count; queues = is.queues; work = is.work; made = is.made; among = is.among; reached = is.reached; booted = is.booted; bound = is.bound };
+  is = record { seat = is.seat; fresh = is.fresh; board = is.board; until = is.until; count = is.count; queues = is.queues; clock = is.clock; work = is.work; made = is.made; among = is.among; reached = is.reached; booted = is.booted; bound = is.bound };
   shows = λ whole on. shows whole (record { sound = on.sound; board = on.board; queues = on.queues; own = on.own });
   closed = λ none. absurd (cc none);
   halts = same_halt clients closer (Some why) why by;

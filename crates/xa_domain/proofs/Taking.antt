@@ -14,6 +14,7 @@ use Rattle.xa_boot.specs.xa_events.Homes.Home.{CallerHome}
 use Rattle.xa_boot.specs.xa_events.Words.{EachNumbered}
 use Rattle.xa_boot.specs.xa_stamp.declared.home.Stamped.{Stamped}
 use Rattle.xa_boot.specs.xa_stamp.Home.{Notes}
+use Rattle.xa_boot.specs.xa_lock.declared.makers.Made.{Made}
 use Rattle.xa_boot.specs.xa_lock.declared.pass.LockPass.{LockPass}
 use Rattle.xa_boot.specs.xa_cell.declared.tokens.Seat.{Seat}
 use Rattle.xa_boot.specs.xa_worker.Crew.{stands_at}
@@ -30,7 +31,7 @@ use Rattle.xa_boot.specs.xa_desk.declared.domain.Domain.{Domain}
 use Rattle.xa_boot.specs.xa_desk.declared.desk.Desk.{Desk}
 use Rattle.xa_boot.specs.xa_desk.declared.stopped.Stopped.{Stopped}
 use Rattle.xa_boot.specs.xa_desk.declared.stopped.Stopped.TheVariants.{Here, Elsewhere}
-use Rattle.xa_boot.specs.xa_desk.Desks.{IsDesk, IsBoardPass, IsQueuePass}
+use Rattle.xa_boot.specs.xa_desk.Desks.{IsDesk, IsBoardPass, IsQueuePass, IsClockPass}
 use Rattle.xa_boot.specs.xa_desk.Halting.{IsStopAt}
 use Rattle.xa_boot.specs.xa_desk.Parting.{IsLeft}
 use Rattle.xa_boot.specs.xa_desk.declared.departure.Done.{Done}
@@ -124,7 +125,7 @@ home_same d desk work entries at_desk same is =
 
 module _ {L T : Type 0} (d : Domain) (itself : Leaving) where
   pub taken_more : (desks : List Desk) (old new : Gathered L T) (desk : Desk) (notes : Notes) (why : Option Stopped) → HasTaken d itself desks old → IsLeftDesk d (length desks + 1) desk
-      → AddsTokens desk.caller.seat desk.board desk.queues.items old.tokens new.tokens → new.callers.items ≡ old.callers.items ++ notes ∷ [] → notes.entries ≡ home_of_desk d desk
+      → AddsTokens desk.caller.seat desk.board desk.queues.items desk.clock old.tokens new.tokens → new.callers.items ≡ old.callers.items ++ notes ∷ [] → notes.entries ≡ home_of_desk d desk
       → new.stopped ≡ first_of old.stopped why → IfSome why (IsStopAt desk) → HasTaken d itself (desks ++ desk ∷ []) new
   taken_more desks old new desk notes why taken left adds pushed home stopped halts =
       let entries : Notes → List Stamped = λ (n : Notes). n.entries in
@@ -138,27 +139,31 @@ module _ {L T : Type 0} (d : Domain) (itself : Leaving) where
       }
 
 -- its seat and passes may be added
-pub may_add : (d : Domain) (desk : Desk) (t : Tokens) (all : List Leaving) → IsDesk d desk → AreTokens (length d.queues.items) all t → IsSome desk.board × (length desk.queues.items ≡ length t.queues.items) × All IsSome desk.queues.items
+pub may_add : (d : Domain) (desk : Desk) (t : Tokens) (all : List Leaving) → IsDesk d desk → AreTokens (length d.queues.items) all t → IsSome desk.board × (length desk.queues.items ≡ length t.queues.items) × All IsSome desk.queues.items × IsSome desk.clock
 may_add d desk t all is are = (
   there_some (IsBoardPass d desk.caller.work) desk.board is.board,
   is.count ∙ sym are.count,
   all_some (IsQueuePass d desk.caller.work) (length d.queues.items) desk.queues.items is.count is.queues,
+  there_some (IsClockPass d desk.caller.work) desk.clock is.clock,
 )
 
 -- so may those that it left
-pub done_may_add : (d : Domain) (done : Done) (desk : Desk) (t : Tokens) (all : List Leaving) → IsLeft done desk → IsDesk d desk → AreTokens (length d.queues.items) all t → IsSome done.board × (length done.queues.items ≡ length t.queues.items) × All IsSome done.queues.items
+pub done_may_add : (d : Domain) (done : Done) (desk : Desk) (t : Tokens) (all : List Leaving) → IsLeft done desk → IsDesk d desk → AreTokens (length d.queues.items) all t
+    → IsSome done.board × (length done.queues.items ≡ length t.queues.items) × All IsSome done.queues.items × IsSome done.clock
 done_may_add d done desk t all left is are =
     let may = may_add d desk t all is are in (
       subst (λ (b : Option (LockPass BoardNote)). IsSome b) (sym left.board) may.0,
       ap (λ (v : Vec (Option (LockPass (QueueNote Filling))) Global). length v.items) left.queues ∙ may.1,
       subst (λ (v : Vec (Option (LockPass (QueueNote Filling))) Global). All IsSome v.items) (sym left.queues) may.2,
+      subst (λ (o : Option (LockPass Made)). IsSome o) (sym left.clock) may.3,
     )
 
-adds_left : (done : Done) (desk : Desk) (old new : Tokens) → IsLeft done desk → AddsTokens done.left.seat done.board done.queues.items old new → AddsTokens desk.caller.seat desk.board desk.queues.items old new
+adds_left : (done : Done) (desk : Desk) (old new : Tokens) → IsLeft done desk → AddsTokens done.left.seat done.board done.queues.items done.clock old new → AddsTokens desk.caller.seat desk.board desk.queues.items desk.clock old new
 adds_left done desk old new left adds =
-    subst (λ (s : Seat Filling). AddsTokens s desk.board desk.queues.items old new) left.seat
-    (subst (λ (b : Option (LockPass BoardNote)). AddsTokens done.left.seat b desk.queues.items old new) left.board
-    (subst (λ (q : Vec (Option (LockPass (QueueNote Filling))) Global). AddsTokens done.left.seat done.board q.items old new) left.queues adds))
+    subst (λ (s : Seat Filling). AddsTokens s desk.board desk.queues.items desk.clock old new) left.seat
+    (subst (λ (b : Option (LockPass BoardNote)). AddsTokens done.left.seat b desk.queues.items desk.clock old new) left.board
+    (subst (λ (q : Vec (Option (LockPass (QueueNote Filling))) Global). AddsTokens done.left.seat done.board q.items desk.clock old new) left.queues
+    (subst (λ (o : Option (LockPass Made)). AddsTokens done.left.seat done.board done.queues.items o old new) left.clock adds)))
 
 -- ---- clients
 
@@ -205,7 +210,7 @@ module _ {L T : Type 0} (d : Domain) (itself : Leaving) (scripts : List Client) 
       may_end d (length so_far.front + 1) next.0 client next.3
 
   pub client_may_add : (rest left : List ClientWorker) (client : ClientWorker) (ended : Ended) (now : Gathered L T) → HasClientsSo d itself scripts clients rest old now → rest ≡ client ∷ left → EndsAs d client ended
-      → IsSome ended.done.board × (length ended.done.queues.items ≡ length now.tokens.queues.items) × All IsSome ended.done.queues.items
+      → IsSome ended.done.board × (length ended.done.queues.items ≡ length now.tokens.queues.items) × All IsSome ended.done.queues.items × IsSome ended.done.clock
   client_may_add rest left client ended now so_far is ends =
       let n : ℕ = length so_far.front + 1 in
       let next = first_done d n so_far.later client left (subst (EachDone d n so_far.later) is so_far.left) in
@@ -221,7 +226,7 @@ module _ {L T : Type 0} (d : Domain) (itself : Leaving) (scripts : List Client) 
 
   -- one more, which left
   pub clients_more : (rest left : List ClientWorker) (client : ClientWorker) (ended : Ended) (now new : Gathered L T) (notes : Notes) → HasClientsSo d itself scripts clients rest old now → rest ≡ client ∷ left → EndsAs d client ended
-      → new.stopped ≡ first_of now.stopped ended.stopped → AddsTokens ended.done.left.seat ended.done.board ended.done.queues.items now.tokens new.tokens → new.callers.items ≡ now.callers.items ++ notes ∷ []
+      → new.stopped ≡ first_of now.stopped ended.stopped → AddsTokens ended.done.left.seat ended.done.board ended.done.queues.items ended.done.clock now.tokens new.tokens → new.callers.items ≡ now.callers.items ++ notes ∷ []
       → notes.entries ≡ filter (stands_at ended.done.left.work.setup ended.done.left.work.clients (CallerHome ended.done.left.work.id.0)) ended.done.left.work.own → IsSound ended.done.left.work
       → HasClientsSo d itself scripts clients left old new
   clients_more rest left client ended now new notes so_far is ends stopped adds pushed home sound =
@@ -284,7 +289,7 @@ module _ {L T : Type 0} (d : Domain) (shows : T → StarterShows) (itself : Leav
   next_over rest left w now so_far is = let n : ℕ = length so_far.front + 1 in (n, (subst (EachNumbered (IsOver d shows) n) is so_far.left).0)
 
   pub server_may_add : (rest : List (ServerWorker L T)) (done : Done) (ended : Desk) (now : Gathered L T) → HasServersSo d shows itself desks servers rest old now → IsLeft done ended → IsDesk d ended
-      → IsSome done.board × (length done.queues.items ≡ length now.tokens.queues.items) × All IsSome done.queues.items
+      → IsSome done.board × (length done.queues.items ≡ length now.tokens.queues.items) × All IsSome done.queues.items × IsSome done.clock
   server_may_add rest done ended now so_far left is = done_may_add d done ended now.tokens (itself ∷ map leaving_of (desks ++ so_far.has.ends)) left is so_far.has.taken.tokens_are
 
   pub all_servers : (rest : List (ServerWorker L T)) (now : Gathered L T) → rest ≡ [] → HasServersSo d shows itself desks servers rest old now → HasServers d shows itself desks servers old now
@@ -294,7 +299,7 @@ module _ {L T : Type 0} (d : Domain) (shows : T → StarterShows) (itself : Leav
   -- one more, which is given up
   pub servers_more : (rest left : List (ServerWorker L T)) (w : ServerWorker L T) (done : Done) (ended : Desk) (now new : Gathered L T) (notes : Notes)
       → HasServersSo d shows itself desks servers rest old now → rest ≡ w ∷ left → IsLeft done ended → IsGivenUp d w.desk ended
-      → new.stopped ≡ first_of now.stopped w.stopped → AddsTokens done.left.seat done.board done.queues.items now.tokens new.tokens → new.callers.items ≡ now.callers.items ++ notes ∷ []
+      → new.stopped ≡ first_of now.stopped w.stopped → AddsTokens done.left.seat done.board done.queues.items done.clock now.tokens new.tokens → new.callers.items ≡ now.callers.items ++ notes ∷ []
       → notes.entries ≡ filter (stands_at done.left.work.setup done.left.work.clients (CallerHome done.left.work.id.0)) done.left.work.own → IsSound done.left.work
       → new.lives.items ≡ now.lives.items ++ w.served.lives ∷ [] → new.cut.items ≡ now.cut.items ++ w.cut ∷ [] → new.starters.items ≡ now.starters.items ++ w.served.starter ∷ []
       → HasServersSo d shows itself desks servers left old new
@@ -386,7 +391,7 @@ module _ {L T : Type 0} (d : Domain) (shows : T → StarterShows) where
       )
 
   -- nothing was taken but the domain's own
-  pub nothing_taken : (queues clients servers : ℕ) (closer : Closer) (room : Gathered L T) (t : Tokens) → IsNothing queues clients servers room → queues ≡ length d.queues.items → AddsTokens closer.seat closer.board closer.queues.items room.tokens t → HasTaken d (itself_of d closer) [] (record room { tokens = t })
+  pub nothing_taken : (queues clients servers : ℕ) (closer : Closer) (room : Gathered L T) (t : Tokens) → IsNothing queues clients servers room → queues ≡ length d.queues.items → AddsTokens closer.seat closer.board closer.queues.items closer.clock room.tokens t → HasTaken d (itself_of d closer) [] (record room { tokens = t })
   nothing_taken queues clients servers closer room t nothing count adds = record {
     tokens_are = subst (λ n. AreTokens n (itself_of d closer ∷ []) t) count (adds.are (work_of d closer) queues [] (no_tokens queues (clients + servers + 1) room.tokens nothing.tokens_room));
     callers_are = ap (map (λ (n : Notes). n.entries)) nothing.callers_room.0;
@@ -449,17 +454,19 @@ module _ {L T : Type 0} where
       let some = ap length is in
       less_workers 1 (length rest + 0) now (omega (arith, some)) (keeps 0 (subst (λ n. HasWorkerSpace n old) same room))
 
-  pub one_worker_less : (n m : ℕ) (seat : Seat Filling) (board : Option (LockPass BoardNote)) (queues : List (Option (LockPass (QueueNote Filling)))) (notes : Notes) (old new : Gathered L T) → m ≡ n + 1 → AddsTokens seat board queues old.tokens new.tokens
+  pub one_worker_less : (n m : ℕ) (seat : Seat Filling) (board : Option (LockPass BoardNote)) (queues : List (Option (LockPass (QueueNote Filling)))) (clock : Option (LockPass Made)) (notes : Notes) (old new : Gathered L T)
+      → m ≡ n + 1 → AddsTokens seat board queues clock old.tokens new.tokens
       → new.callers.items ≡ old.callers.items ++ notes ∷ [] → vec_capacity new.callers ≡ vec_capacity old.callers → HasWorkerSpace m old → HasWorkerSpace n new
-  one_worker_less n m seat board queues notes old new one adds pushed same room =
+  one_worker_less n m seat board queues clock notes old new one adds pushed same room =
       let callers = room.callers_space in
       let more = ap length pushed in
       let longer = length-append old.callers.items (notes ∷ []) in
       record { tokens_space = adds.space n (subst (λ k. HasTokenSpace k old.tokens) one room.tokens_space); callers_space = omega (arith, callers, more, longer, same, one) }
 
-  pub room_after : (queues clients servers : ℕ) (seat : Seat Filling) (board : Option (LockPass BoardNote)) (passes : List (Option (LockPass (QueueNote Filling)))) (room : Gathered L T) (t : Tokens) → IsNothing queues clients servers room → AddsTokens seat board passes room.tokens t
+  pub room_after : (queues clients servers : ℕ) (seat : Seat Filling) (board : Option (LockPass BoardNote)) (passes : List (Option (LockPass (QueueNote Filling)))) (clock : Option (LockPass Made)) (room : Gathered L T) (t : Tokens)
+      → IsNothing queues clients servers room → AddsTokens seat board passes clock room.tokens t
       → HasWorkerSpace (clients + servers) (record room { tokens = t })
-  room_after queues clients servers seat board passes room t nothing adds = record {
+  room_after queues clients servers seat board passes clock room t nothing adds = record {
     tokens_space = adds.space (clients + servers) (token_space queues (clients + servers + 1) room.tokens nothing.tokens_room);
     callers_space = empty_space (clients + servers) room.callers nothing.callers_room.0 nothing.callers_room.1;
   }

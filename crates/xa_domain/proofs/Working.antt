@@ -99,6 +99,7 @@ module _ (d : Domain) where
         until = until closer closer.board new.seen new.board;
         count = new.count;
         queues = new.queues;
+        clock = new.clock;
         work = new.work;
         made = All-weaker Boots (λ (x : Stamped). IsMade x.event) (λ x is. boots_made x.event is) closer.own new.boots;
         among = All-weaker Boots (λ (x : Stamped). IsAmong (length d.queues.items) (home_of d.setup d.clients x.event)) (λ x is. boots_among (length d.queues.items) x.event is) closer.own new.boots;

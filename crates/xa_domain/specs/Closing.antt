@@ -26,12 +26,12 @@ use Rattle.xa_boot.specs.xa_desk.Whole.{Whole, IsKnown}
 use Rattle.xa_boot.specs.xa_client_worker.declared.working.ClientWorker.{ClientWorker}
 use Rattle.xa_boot.specs.xa_client_worker.declared.working.ClientWorker.TheVariants.{Left}
 use Rattle.xa_boot.specs.declared.closer.Closer.{Closer}
-use Rattle.xa_boot.specs.Booting.{work_of}
+use Rattle.xa_boot.specs.Booting.{IsClockFor, work_of}
 use Rattle.xa_history.specs.xa_script.declared.script.Client.{Client}
 use Rattle.xa_domain.specs.Working.{EachDone}
 
--- the domain itself: its passes are of the domain's locks, that of the board saw the boot and nothing else, its seat has done nothing, and what it noted are
--- its own events, up to its stamp
+-- the domain itself: its passes are of the domain's locks, that of the board saw the boot and nothing else, and that of the clock nothing, its seat has done
+-- nothing, and what it noted are its own events, up to its stamp
 pub record IsCloser (d : Domain) (closer : Closer) : Type 0 where
   pub seat : IsSeatOf d.cells closer.seat
   pub fresh : IsNew closer.seat.first closer.seat.count (known closer.seat)
@@ -39,6 +39,7 @@ pub record IsCloser (d : Domain) (closer : Closer) : Type 0 where
   pub until : All (λ (x : Stamped). x.stamp.0 ≤ d.booted.0) (changes_at (page_in closer.board).seen)
   pub count : length closer.queues.items ≡ length d.queues.items
   pub queues : (k : ℕ) → k < length d.queues.items → IsThere (IsQueuePass d (work_of d closer) k) (slice_index_or closer.queues.items k None)
+  pub clock : IsThere (IsClockFor d.clock 0) closer.clock
   pub work : IsWorkOf d.setup d.clients 0 closer.own
   pub made : All (λ (x : Stamped). IsMade x.event) closer.own
   pub among : All (λ (x : Stamped). IsAmong (length d.queues.items) (home_of d.setup d.clients x.event)) closer.own

@@ -5,6 +5,7 @@ use Rattle.std.specs.declared.vec.Vec.{Vec}
 use Rattle.std.specs.declared.alloc.Global.{Global}
 use Rattle.xa_boot.specs.xa_events.Words.{EachNumbered}
 use Rattle.xa_boot.specs.xa_stamp.Home.{Notes}
+use Rattle.xa_boot.specs.xa_lock.declared.makers.Made.{Made}
 use Rattle.xa_boot.specs.xa_lock.declared.pass.LockPass.{LockPass}
 use Rattle.xa_boot.specs.xa_cell.declared.tokens.Seat.{Seat}
 use Rattle.xa_boot.specs.xa_cell.Known.{known}
@@ -43,6 +44,7 @@ pub record HasTokenSpace (more : ℕ) (t : Tokens) : Type 0 where
   pub seats_space : HasSpace more t.seats
   pub boards_space : HasSpace more t.boards
   pub queues_space : All (HasSpace more) t.queues.items
+  pub clocks_space : HasSpace more t.clocks
 
 -- and for what so many workers more leave
 pub record HasWorkerSpace {L T : Type 0} (more : ℕ) (g : Gathered L T) : Type 0 where
@@ -66,8 +68,8 @@ pub record AreAdded (passes : List (Option (LockPass (QueueNote Filling)))) (old
   pub capacity : (k : ℕ) (default : Vec (LockPass (QueueNote Filling)) Global) → vec_capacity (slice_index_or new k default) ≡ vec_capacity (slice_index_or old k default)
 
 -- a worker's seat and passes stand behind those of the others
-pub record AddsTokens (seat : Seat Filling) (board : Option (LockPass BoardNote)) (queues : List (Option (LockPass (QueueNote Filling)))) (old new : Tokens) : Type 0 where
-  pub are : (work : WorkState) (n : ℕ) (all : List Leaving) → AreTokens n all old → AreTokens n (all ++ record { work = work; seat = seat; board = board; queues = queues } ∷ []) new
+pub record AddsTokens (seat : Seat Filling) (board : Option (LockPass BoardNote)) (queues : List (Option (LockPass (QueueNote Filling)))) (clock : Option (LockPass Made)) (old new : Tokens) : Type 0 where
+  pub are : (work : WorkState) (n : ℕ) (all : List Leaving) → AreTokens n all old → AreTokens n (all ++ record { work = work; seat = seat; board = board; queues = queues; clock = clock } ∷ []) new
   pub space : (more : ℕ) → HasTokenSpace (more + 1) old → HasTokenSpace more new
 
 -- ---- the workers

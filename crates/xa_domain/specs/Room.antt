@@ -16,6 +16,7 @@ pub record AreNoTokens (queues workers : ℕ) (t : Tokens) : Type 0 where
   pub boards_room : IsEmptyFor workers t.boards
   pub count : length t.queues.items ≡ queues
   pub queues_room : All (IsEmptyFor workers) t.queues.items
+  pub clocks_room : IsEmptyFor workers t.clocks
 
 -- there is room for what so many queues, clients and servers leave
 pub record HasRoom {L T : Type 0} (queues clients servers : ℕ) (r : Room L T) : Type 0 where

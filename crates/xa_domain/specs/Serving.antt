@@ -14,7 +14,7 @@ use Rattle.xa_boot.specs.xa_server_worker.Lives.{HasStarted}
 use Rattle.xa_domain.specs.Working.{IsBuiltClient}
 use Rattle.xa_history.specs.Served.{IsRecorded, IsServedWhole, IsServedSoFar, IsWorn}
 
--- at most 64 clients, each with fewer than 2^32 calls, of which each is a tpcall, sets a priority, or would change the board
+-- at most 64 clients, each with fewer than 2^32 calls, of which each is a tpcall, sets a priority, or would change the board or the clock
 pub record IsBuilt (clients : List Client) : Type 0 where
   pub few : length clients ≤ 64
   pub calls : All IsBuiltClient clients

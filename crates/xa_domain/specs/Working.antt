@@ -19,7 +19,7 @@ use Rattle.xa_boot.specs.xa_server_worker.Lives.{ServerShows}
 use Rattle.xa_boot.specs.xa_server_worker.Working.{cut_in}
 use Rattle.xa_history.specs.Ended.{HasMadeAll}
 
--- a client whose calls are built: each is a tpcall or sets a priority, and there are fewer than 2^32
+-- a client whose calls are built, and there are fewer than 2^32
 pub record IsBuiltClient (client : Client) : Type 0 where
   pub calls : AllCalls client.ops
   pub few : length client.ops < 2 ^ 32

@@ -72,6 +72,7 @@ fn add_clients<L: Link, T>(domain: &Domain, all: &mut Gathered<L, T>, clients: V
             reader: _,
             board,
             queues,
+            clock,
         } = done;
         let Left {
             work,
@@ -79,7 +80,7 @@ fn add_clients<L: Link, T>(domain: &Domain, all: &mut Gathered<L, T>, clients: V
             halt: _,
         } = left;
         all.stopped = first_of(all.stopped, stopped);
-        all.tokens.add(seat, board, queues);
+        all.tokens.add(seat, board, queues, clock);
         all.callers.push_reserved(work.home());
     }
     rest.destroy_empty();
@@ -118,6 +119,7 @@ fn add_servers<L: Link, T: Starter<L>>(
             reader: _,
             board,
             queues,
+            clock,
         } = desk.abandon(domain);
         let Left {
             work,
@@ -125,7 +127,7 @@ fn add_servers<L: Link, T: Starter<L>>(
             halt: _,
         } = left;
         all.stopped = first_of(all.stopped, stopped);
-        all.tokens.add(seat, board, queues);
+        all.tokens.add(seat, board, queues, clock);
         all.callers.push_reserved(work.home());
         all.lives.push_reserved(lives);
         all.cut.push_reserved(cut);
@@ -157,11 +159,12 @@ pub(crate) fn gather<L: Link, T: Starter<L>>(
         seat,
         board,
         queues,
+        clock,
         own: _,
         seen: _,
         halt,
     } = closer;
-    all.tokens.add(seat, board, queues);
+    all.tokens.add(seat, board, queues, clock);
     add_clients(domain, &mut all, clients);
     add_servers(domain, &mut all, servers);
     all.stopped = with_halt(all.stopped, halt);

@@ -8,7 +8,6 @@ ghost use Rattle.xa_domain.specs.Handed.{HandsBack, halt_of};
 use crate::gathering::{Gathered, gather};
 use crate::homes::close_homes;
 use crate::room::Room;
-use std::alloc::Global;
 use xa_boot::Booted;
 use xa_boot::desk::Stopped;
 use xa_boot::link::{Link, Starter};
@@ -40,11 +39,7 @@ fn halt_of(stopped: Option<Stopped>) -> Option<Halt>
 }
 
 /// Brings together what the workers of a domain leave, once each of them is done, and hands it back. It takes no memory.
-pub fn hand_back<L: Link, T: Starter<L>>(
-    alloc: Global,
-    booted: Booted<L, T>,
-    room: Room<L, T>,
-) -> Served<L, T>
+pub fn hand_back<L: Link, T: Starter<L>>(booted: Booted<L, T>, room: Room<L, T>) -> Served<L, T>
     requires room { HasRoom (length booted.domain.setup.queues) booted.domain.clients (length booted.domain.setup.servers) room }
     requires joined { (scripts : List Client) × IsJoined T.shows scripts booted }
     ensures { (scripts : List Client) → IsJoined T.shows scripts booted
@@ -82,7 +77,7 @@ pub fn hand_back<L: Link, T: Starter<L>>(
     } = gather(&domain, clients, servers, closer, room);
     Served {
         halt: halt_of(stopped),
-        homes: close_homes(alloc, domain, tokens, homes, callers),
+        homes: close_homes(domain, tokens, homes, callers),
         lives,
         cut,
         starters,

@@ -13,7 +13,6 @@ ghost use Rattle.xa_domain.specs.Closed.{GivesBack};
 ghost use Rattle.xa_domain.specs.Locks.{IsSilent, AreAllOf, ClosesAs, ClosesAll, Locked, Passes};
 
 use crate::tokens::{QueuePass, Tokens};
-use std::alloc::Global;
 use xa_boot::caller::{Cargo, Filling};
 use xa_boot::cell::{Cells, Filled, Seat};
 use xa_boot::desk::Domain;
@@ -22,7 +21,7 @@ use xa_boot::lock::Guarded;
 use xa_boot::queue::Entry;
 use xa_boot::server::{Closing, ServerSlot};
 use xa_boot::stamp::{Home, Record};
-use xa_boot::types::{Sequence, Stamp};
+use xa_boot::types::Sequence;
 
 // Lets go of a request that still waits, as behind a halt: its cell is filled without an answer.
 fn let_go(cells: &Cells<Filling>, seat: &mut Seat<Filling>, entry: Entry<Cargo>)
@@ -102,7 +101,6 @@ fn add_callers(homes: &mut Vec<Home>, callers: Vec<Home>)
 /// Closes the locks with all their passes, and the cells with all their seats. The homes stand in the order of their merge:
 /// the board, the queues, the clock, the callers.
 pub(crate) fn close_homes(
-    alloc: Global,
     domain: Domain,
     tokens: Tokens,
     mut homes: Vec<Home>,
@@ -123,6 +121,7 @@ pub(crate) fn close_homes(
         cells,
         board,
         queues,
+        clock,
         waits: _,
         halt: _,
     } = domain;
@@ -130,12 +129,12 @@ pub(crate) fn close_homes(
         mut seats,
         boards,
         queues: passes,
+        clocks,
     } = tokens;
     homes.push_reserved(board.close(boards).home());
     close_queues(&cells, &mut seats[0], queues, passes, &mut homes);
     cells.close(seats);
-    let clock = Home::new(alloc, Stamp(0));
-    homes.push_reserved(clock);
+    homes.push_reserved(clock.close(clocks).home());
     add_callers(&mut homes, callers);
     Record {
         homes: Sequence::from_vec(homes),

@@ -38,12 +38,14 @@ impl Tokens {
         ensures { IfOk result (AreNoTokens queues workers) }
     {
         let boards = Vec::with_capacity(alloc, workers)?;
+        let clocks = Vec::with_capacity(alloc, workers)?;
         let queues = passes_for(alloc, queues, workers)?;
         let seats = Vec::with_capacity(alloc, workers)?;
         Ok(Tokens {
             seats,
             boards,
             queues,
+            clocks,
         })
     }
 
@@ -55,6 +57,7 @@ impl Tokens {
             seats,
             boards: _,
             queues: _,
+            clocks: _,
         } = self;
         seats.destroy_empty();
     }

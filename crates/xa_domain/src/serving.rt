@@ -56,7 +56,7 @@ fn serve_by<R: Threads + Wait + Sync, L: Link + Send, T: Starter<L> + Send, G: G
     ensures { ServeEnds T.shows booted.domain.setup clients.now result.halt result.homes.homes (map (λ v. v.items) result.lives.items) (map cut_in result.cut.items) result.starters.items }
 {
     let done = run_all(rt, alloc, clients, booted, gate);
-    hand_back(alloc, done, room)
+    hand_back(done, room)
 }
 
 // The domain is booted with these starters, and serves the clients.

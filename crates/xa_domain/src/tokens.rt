@@ -7,7 +7,7 @@ ghost use Rattle.xa_domain.specs.Gathering.{HasSpace, HasTokenSpace, AreAdded, A
 use xa_boot::caller::Filling;
 use xa_boot::cell::Seat;
 use xa_boot::held::{BoardNote, QueueNote};
-use xa_boot::lock::LockPass;
+use xa_boot::lock::{LockPass, Made};
 
 /// A worker's right to enter a queue.
 pub type QueuePass = LockPass<QueueNote<Filling>>;
@@ -17,6 +17,7 @@ pub struct Tokens {
     pub seats: Vec<Seat<Filling>>,
     pub boards: Vec<LockPass<BoardNote>>,
     pub queues: Vec<Vec<QueuePass>>,
+    pub clocks: Vec<LockPass<Made>>,
 }
 
 // Puts a worker's pass behind those of the other workers.
@@ -51,15 +52,18 @@ impl Tokens {
         seat: Seat<Filling>,
         board: Option<LockPass<BoardNote>>,
         queues: Vec<Option<QueuePass>>,
+        clock: Option<LockPass<Made>>,
     )
         requires board { IsSome board }
         requires count { length queues.items ≡ length self.old.queues.items }
         requires there { All IsSome queues.items }
+        requires clock { IsSome clock }
         requires space { HasTokenSpace 1 self.old }
-        ensures { AddsTokens seat board queues.items self.old self.new }
+        ensures { AddsTokens seat board queues.items clock self.old self.new }
     {
         self.seats.push_reserved(seat);
         add_pass(&mut self.boards, board);
         add_passes(&mut self.queues, queues);
+        add_pass(&mut self.clocks, clock);
     }
 }

@@ -34,7 +34,7 @@ use Rattle.xa_client_worker.specs.xa_desk.Whole.{entries_of}
 use Rattle.xa_client_worker.specs.xa_desk.Desks.{IsShown}
 use Rattle.xa_history.specs.Joined.{Back, whole_of, kept_of, noted_of, AllLeft}
 use Rattle.xa_history.proofs.Listed.{numbered_map, nothing_past}
-use Rattle.xa_history.proofs.Left.{same_homes, each_worker, has_left, each_left}
+use Rattle.xa_history.proofs.Left.{bare_moves, same_homes, each_worker, has_left, each_left}
 use Rattle.xa_history.proofs.Standing.{makers_at}
 use Rattle.xa_history.proofs.Going.{one_goes_on}
 
@@ -112,7 +112,7 @@ module _ (d : Domain) (b : Back) (domain : WorkState) (desks : List Desk) (all :
   pub home_rises : (home : Home) → (first : Stamp) × Rises first (held home)
   home_rises BoardHome = (b.board.board.first, changes_rise b.board.board.first b.board.notes all.board.climbs (let latest = all.board.latest in let bound = all.board.bound in omega (arith, latest, bound)))
   home_rises (QueueHome queue) = subst (λ (o : Option (List Made)). (first : Stamp) × Rises first (noted_in (list_in o))) (sym (numbered_map (λ (kept : Kept Filling). kept.queue.entries) queue b.queues)) (queue_home queue (numbered queue b.queues) refl)
-  home_rises ClockHome = (no_stamp, omega arith)
+  home_rises ClockHome = (no_stamp, subst (Rises no_stamp) (sym (bare_moves b.clock.entries)) all.clock.rises)
   home_rises (CallerHome caller) =
       let its : List Stamped = list_in (numbered caller b.own) in (
         no_stamp,

@@ -10,6 +10,7 @@ use Rattle.xa_client_worker.specs.xa_events.Homes.Home.{QueueHome}
 use Rattle.xa_client_worker.specs.xa_lock.declared.makers.Made.{Made}
 use Rattle.xa_client_worker.specs.xa_lock.declared.pass.LockPass.{LockPass}
 use Rattle.xa_client_worker.specs.xa_lock.Known.{known as page_of}
+use Rattle.xa_client_worker.specs.xa_lock.Makers.{maker_of as move_maker}
 use Rattle.xa_client_worker.specs.xa_lock.Pages.{StartsWith, Knows}
 use Rattle.xa_client_worker.specs.xa_worker.Crew.{MayNote}
 use Rattle.xa_client_worker.specs.xa_cell.declared.tokens.Seat.{Seat}
@@ -17,6 +18,7 @@ use Rattle.xa_client_worker.specs.xa_cell.declared.view.Fill.{Fill}
 use Rattle.xa_client_worker.specs.xa_cell.Known.{known}
 use Rattle.xa_client_worker.specs.xa_cell.Views.{at}
 use Rattle.xa_client_worker.specs.xa_held.declared.kept_queue.QueueNote.{QueueNote}
+use Rattle.xa_client_worker.specs.xa_ticks.Clock.{made_in as moves_in}
 use Rattle.xa_client_worker.specs.xa_held.Board.{maker_of as change_maker}
 use Rattle.xa_client_worker.specs.xa_held.Kept.{notes_of}
 use Rattle.xa_client_worker.specs.xa_held.Notes.{maker_of}
@@ -85,6 +87,7 @@ module _ (d : Domain) (b : Back) (domain : WorkState) (desks : List Desk) (all :
     sound = all.board;
     board = front_in change_maker b.board.notes desk.board left.board;
     queues = queues_begin desk left;
+    clock = front_in move_maker (moves_in b.clock.entries) desk.clock left.clock;
     may = λ queue. subst (All (λ (made : Made). MayNote d.clients made.maker.0 made.noted.event)) (same_queue d b queue) (may_at d b domain desks all (QueueHome queue));
     stand = stands_whole d b desk.caller.work.id.0 desk.caller.work.own (desk_left d b (queues_count d b domain desks all) desk left);
     ended = taken_ended (entries_of whole) b.seats all.answered seats_ended (seat_of desk) here;

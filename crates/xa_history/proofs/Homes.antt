@@ -24,6 +24,7 @@ use Rattle.xa_client_worker.proofs.xa_worker.Ending.{queues_are_met}
 use Rattle.xa_client_worker.proofs.xa_worker.Lists.{past_in-append, AtEach-later}
 use Rattle.xa_client_worker.proofs.xa_worker.Over.{met_by_workers}
 use Rattle.xa_client_worker.specs.xa_queue.Reading.{MetIfNew}
+use Rattle.xa_client_worker.specs.xa_ticks.Clock.{made_in as moves_in}
 use Rattle.xa_client_worker.specs.xa_held.Board.{made_in}
 use Rattle.xa_client_worker.specs.xa_held.Kept.{Kept}
 use Rattle.xa_client_worker.specs.xa_worker.Work.{WorkState}
@@ -32,6 +33,7 @@ use Rattle.xa_client_worker.specs.xa_desk.declared.domain.Domain.{Domain}
 use Rattle.xa_client_worker.specs.xa_desk.declared.desk.Desk.{Desk}
 use Rattle.xa_history.specs.Joined.{Back, kept_of, noted_of, AllLeft}
 use Rattle.xa_history.proofs.Listed.{numbered_map}
+use Rattle.xa_history.proofs.Left.{bare_moves}
 use Rattle.xa_history.proofs.Crew.{each_shown, desks_are_crew}
 
 -- what each event met if each request was new until then
@@ -56,6 +58,10 @@ module _ (d : Domain) (b : Back) (domain : WorkState) (desks : List Desk) (all :
   board_met : AtEach (HomePart d.setup) (past_in (noted_in (kept_of b BoardHome)))
   board_met = met_by_workers d.setup d.clients (workers_of d.setup d.clients) (kept_of b) (noted_of domain desks) (desks_are_crew d b domain desks all) BoardHome each_met
 
+  -- what the clock that its lock gave back says of its events
+  clock_met : AtEach (HomePart d.setup) (past_in (noted_in (moves_in b.clock.entries)))
+  clock_met = subst (λ (l : List Stamped). AtEach (HomePart d.setup) (past_in l)) (sym (bare_moves b.clock.entries)) (all.clock.met d.setup)
+
   -- what the queue that its lock gave back says of its events
   by_queue : (queue : ℕ) (o : Option (Kept Filling)) → numbered queue b.queues ≡ o → AtEach (MetIfNew d.setup queue) (past_in (noted_in (list_in (option_map (λ (kept : Kept Filling). kept.queue.entries) o))))
   by_queue queue None there = tt
@@ -72,8 +78,8 @@ module _ (d : Domain) (b : Back) (domain : WorkState) (desks : List Desk) (all :
 
   pub new_and_met : AllNew d.setup (kept_of b) × AllMet d.setup (kept_of b)
   new_and_met =
-      queues_are_met d.setup d.clients (made_in b.board.notes) [] (map (λ (kept : Kept Filling). kept.queue.entries) b.queues) b.own (workers_of d.setup d.clients) (noted_of domain desks)
-      (length-map b.queues (λ (kept : Kept Filling). kept.queue.entries) ∙ all.queues) (all.own ∙ all.count) (desks_are_crew d b domain desks all) board_met tt
+      queues_are_met d.setup d.clients (made_in b.board.notes) (moves_in b.clock.entries) (map (λ (kept : Kept Filling). kept.queue.entries) b.queues) b.own (workers_of d.setup d.clients) (noted_of domain desks)
+      (length-map b.queues (λ (kept : Kept Filling). kept.queue.entries) ∙ all.queues) (all.own ∙ all.count) (desks_are_crew d b domain desks all) board_met clock_met
       (λ queue. homes_if_new d.setup queue (past_in (noted_in (kept_of b (QueueHome queue)))) (each_if_new queue))
 
   pub homes_met : AllMet d.setup (kept_of b)

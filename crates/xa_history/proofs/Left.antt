@@ -1,5 +1,5 @@
 -- What each worker left at the homes: the domain itself, and each caller by its desk.
-use Rattle.std.proofs.Common.{◌≡◌, ◌⊎◌, ℕ, zero, suc, ◌+◌, ◌<◌, Bool, false, List, [], length, Option, Some, None, inl, inr, refl, sym, ◌∙◌, ap, subst, arith}
+use Rattle.std.proofs.Common.{◌≡◌, ◌⊎◌, ℕ, zero, suc, ◌+◌, ◌<◌, Bool, false, List, [], ◌∷◌, length, Option, Some, None, inl, inr, refl, sym, ◌∙◌, ap, subst, arith}
 use Rattle.std.specs.Prelude.{slice_index_or, option_map}
 use Rattle.std.specs.List.{All, filter}
 use Rattle.std.proofs.lemmas.Bool.{cases_Bool, cases_lt}
@@ -8,7 +8,7 @@ use Rattle.std.proofs.lemmas.List.Elements.{All-weaker}
 use Rattle.xa_client_worker.specs.xa_types.declared.setup.Setup.{Setup}
 use Rattle.xa_client_worker.specs.xa_types.Setup.{numbered}
 use Rattle.xa_client_worker.specs.xa_events.declared.event.Event.{Event}
-use Rattle.xa_client_worker.specs.xa_events.declared.event.Event.TheVariants.{Advertise, Withdraw, Sweep, Down, Close, Tick}
+use Rattle.xa_client_worker.specs.xa_events.declared.event.Event.TheVariants.{Advertise, Withdraw, Sweep, Down, Close}
 use Rattle.xa_client_worker.specs.xa_events.Homes.{Home, home_of, at_home, same_home}
 use Rattle.xa_client_worker.specs.xa_events.Homes.Home.{BoardHome, QueueHome, ClockHome, CallerHome}
 use Rattle.xa_client_worker.specs.xa_stamp.declared.home.Stamped.{Stamped}
@@ -23,6 +23,7 @@ use Rattle.xa_client_worker.specs.xa_worker.Ending.{list_in, workers_of}
 use Rattle.xa_client_worker.proofs.xa_worker.Lists.{filter-none, same_home-is}
 use Rattle.xa_client_worker.proofs.xa_worker.Ending.{own_theirs}
 use Rattle.xa_client_worker.proofs.xa_worker.Growing.{noted_made}
+use Rattle.xa_client_worker.specs.xa_ticks.Clock.{made_in as moves_in}
 use Rattle.xa_client_worker.specs.xa_held.Board.{made_in, maker_of as change_maker}
 use Rattle.xa_client_worker.specs.xa_held.Joins.{changes_page}
 use Rattle.xa_client_worker.specs.xa_held.Kept.{Kept, notes_of}
@@ -35,7 +36,7 @@ use Rattle.xa_client_worker.specs.xa_desk.declared.domain.Domain.{Domain}
 use Rattle.xa_client_worker.specs.xa_desk.declared.desk.Desk.{Desk}
 use Rattle.xa_client_worker.specs.xa_desk.Whole.{entries_of}
 use Rattle.xa_client_worker.specs.xa_desk.Made.{IsMade}
-use Rattle.xa_client_worker.specs.xa_desk.Desks.{IsAmong, IsThere, IsGrounded, IsBoardPass, IsQueuePass}
+use Rattle.xa_client_worker.specs.xa_desk.Desks.{IsAmong, IsThere, IsGrounded, IsBoardPass, IsQueuePass, IsClockPass}
 use Rattle.xa_history.specs.Joined.{Back, no_queue, kept_or, whole_of, kept_of, noted_of, HasLeft, IsDomainOf, AllLeft}
 use Rattle.xa_history.proofs.Listed.{all_numbered, numbered_map, one_there}
 
@@ -48,6 +49,11 @@ pub record Left (d : Domain) (b : Back) (worker : ℕ) (own : List Stamped) : Ty
   pub home : list_in (numbered worker b.own) ≡ filter (stands_at d.setup d.clients (CallerHome worker)) own
 
 -- ---- the homes with makers and without
+
+-- the clock's entries without their makers are what they were
+pub bare_moves : (entries : List Stamped) → noted_in (moves_in entries) ≡ entries
+bare_moves [] = refl
+bare_moves (x ∷ entries) = ap (λ (l : List Stamped). x ∷ l) (bare_moves entries)
 
 in_option : (default : Kept Filling) (o : Option (Kept Filling)) → default.queue.entries ≡ [] → list_in (option_map (λ (kept : Kept Filling). kept.queue.entries) o) ≡ (kept_or default o).queue.entries
 in_option default None none = sym none
@@ -64,11 +70,17 @@ same_homes d b (CallerHome caller) = sym (noted_made (record { 0 = caller }) (li
 
 -- ---- homes at which a worker noted nothing
 
-off_clock : (setup : Setup) (clients : ℕ) (e : Event) → IsMade e → at_home setup clients ClockHome e ≡ false
-off_clock setup clients (Tick t) made = absurd made
-off_clock setup clients _ made = refl
+-- the domain noted nothing at the clock
+off_clock : (setup : Setup) (clients : ℕ) (e : Event) → MayNote clients 0 e → at_home setup clients ClockHome e ≡ false
+off_clock setup clients e (inl its) = let some = its.0 in absurd (omega (arith, some))
+off_clock setup clients (Advertise a) (inr domain) = refl
+off_clock setup clients (Withdraw w) (inr domain) = refl
+off_clock setup clients (Sweep x) (inr domain) = refl
+off_clock setup clients (Down queue) (inr domain) = refl
+off_clock setup clients (Close queue) (inr domain) = refl
+off_clock setup clients _ (inr domain) = absurd domain
 
--- the domain noted nothing at the home of a caller
+-- nor at the home of a caller
 off_callers : (setup : Setup) (clients caller : ℕ) (e : Event) → MayNote clients 0 e → at_home setup clients (CallerHome caller) e ≡ false
 off_callers setup clients caller e (inl its) = let some = its.0 in absurd (omega (arith, some))
 off_callers setup clients caller (Advertise a) (inr domain) = refl
@@ -94,18 +106,18 @@ module _ (d : Domain) (b : Back) (worker : ℕ) (own : List Stamped) where
   record Locks : Type 0 where
     pub board : noted_in (entries_by maker_of worker (made_in b.board.notes)) ≡ filter (stands_at d.setup d.clients BoardHome) own
     pub queues : (queue : ℕ) → noted_in (entries_by maker_of worker ((whole_of d b).queues queue).queue.entries) ≡ filter (stands_at d.setup d.clients (QueueHome queue)) own
+    pub clock : noted_in (entries_by maker_of worker (moves_in b.clock.entries)) ≡ filter (stands_at d.setup d.clients ClockHome) own
     pub home : list_in (numbered worker b.own) ≡ filter (stands_at d.setup d.clients (CallerHome worker)) own
 
-  all_theirs : IsWorkOf d.setup d.clients worker own → All (λ (x : Stamped). IsMade x.event) own → Locks → (home : Home) → noted_in (entries_by maker_of worker (kept_of b home)) ≡ filter (stands_at d.setup d.clients home) own
-  all_theirs work made locks BoardHome = locks.board
-  all_theirs work made locks (QueueHome queue) = ap (λ (l : List Made). noted_in (entries_by maker_of worker l)) (same_queue d b queue) ∙ locks.queues queue
-  all_theirs work made locks ClockHome =
-      sym (filter-none (stands_at d.setup d.clients ClockHome) own (All-weaker (λ (x : Stamped). IsMade x.event) (λ (x : Stamped). stands_at d.setup d.clients ClockHome x ≡ false) (λ x is. off_clock d.setup d.clients x.event is) own made))
-  all_theirs work made locks (CallerHome caller) =
+  all_theirs : IsWorkOf d.setup d.clients worker own → Locks → (home : Home) → noted_in (entries_by maker_of worker (kept_of b home)) ≡ filter (stands_at d.setup d.clients home) own
+  all_theirs work locks BoardHome = locks.board
+  all_theirs work locks (QueueHome queue) = ap (λ (l : List Made). noted_in (entries_by maker_of worker l)) (same_queue d b queue) ∙ locks.queues queue
+  all_theirs work locks ClockHome = locks.clock
+  all_theirs work locks (CallerHome caller) =
       own_theirs d.setup d.clients (record { 0 = caller }) worker (list_in (numbered caller b.own)) own work.may
       (λ same. subst (λ (c : ℕ). list_in (numbered c b.own) ≡ filter (stands_at d.setup d.clients (CallerHome c)) own) same locks.home)
 
-  -- a page of the board or of a queue has what the worker noted there
+  -- a page of a home has what the worker noted there
   by_page : (page : Page Made) (entries : List Made) (home : Home) → page.maker ≡ worker → Knows maker_of page entries → noted_in page.own ≡ filter (stands_at d.setup d.clients home) own → noted_in (entries_by maker_of worker entries) ≡ filter (stands_at d.setup d.clients home) own
   by_page page entries home maker knows is = ap (λ (n : ℕ). noted_in (entries_by maker_of n entries)) (sym maker) ∙ ap noted_in knows.0 ∙ is
 
@@ -115,14 +127,20 @@ domain_home d b domain is =
     let at : Stamped → Bool = stands_at d.setup d.clients (CallerHome 0) in
     sym (filter-none at domain.own (All-weaker (λ (x : Stamped). MayNote d.clients 0 x.event) (λ (x : Stamped). at x ≡ false) (λ x may. off_callers d.setup d.clients 0 x.event may) domain.own is.work.may))
 
+domain_clock : (d : Domain) (b : Back) (domain : WorkState) → IsDomainOf d b domain → noted_in (entries_by maker_of 0 (moves_in b.clock.entries)) ≡ filter (stands_at d.setup d.clients ClockHome) domain.own
+domain_clock d b domain is =
+    let at : Stamped → Bool = stands_at d.setup d.clients ClockHome in
+    ap noted_in is.at_clock ∙ sym (filter-none at domain.own (All-weaker (λ (x : Stamped). MayNote d.clients 0 x.event) (λ (x : Stamped). at x ≡ false) (λ x may. off_clock d.setup d.clients x.event may) domain.own is.work.may))
+
 pub domain_left : (d : Domain) (b : Back) (domain : WorkState) → IsDomainOf d b domain → Left d b 0 domain.own
 domain_left d b domain is = record {
   work = is.work;
   made = is.made;
   grounded = subst (All (IsGrounded domain.own)) (sym is.knows_board.0 ∙ ap (λ (n : ℕ). entries_by change_maker n b.board.notes) is.boards) is.grounded;
-  theirs = all_theirs d b 0 domain.own is.work is.made (record {
+  theirs = all_theirs d b 0 domain.own is.work (record {
     board = by_page d b 0 domain.own (changes_page is.board) (made_in b.board.notes) BoardHome is.boards (knows_changes is.board b.board is.knows_board) is.at_board;
     queues = λ queue. by_page d b 0 domain.own (made_page (is.page queue)) ((whole_of d b).queues queue).queue.entries (QueueHome queue) (is.pages queue) (knows_events (is.page queue) ((whole_of d b).queues queue) (is.knows queue)) (is.at_queue queue);
+    clock = domain_clock d b domain is;
     home = domain_home d b domain is;
   });
   home = domain_home d b domain is;
@@ -177,6 +195,11 @@ module _ (d : Domain) (b : Back) (count : length b.queues ≡ length d.queues.it
         both_there (λ pass. Knows change_maker (page_of pass) b.board.notes) (IsBoardPass d desk.caller.work) (noted_in (entries_by maker_of number (made_in b.board.notes)) ≡ filter (stands_at d.setup d.clients BoardHome) its_own) desk.board left.board left.is.board
         (λ pass knows is. by_page d b number its_own (changes_page (page_of pass)) (made_in b.board.notes) BoardHome is.maker (knows_changes (page_of pass) b.board knows) is.own)
 
+    at_clock : noted_in (entries_by maker_of number (moves_in b.clock.entries)) ≡ filter (stands_at d.setup d.clients ClockHome) its_own
+    at_clock =
+        both_there (λ pass. Knows maker_of (page_of pass) (moves_in b.clock.entries)) (IsClockPass d desk.caller.work) (noted_in (entries_by maker_of number (moves_in b.clock.entries)) ≡ filter (stands_at d.setup d.clients ClockHome) its_own) desk.clock left.clock left.is.clock
+        (λ pass knows is. by_page d b number its_own (page_of pass) (moves_in b.clock.entries) ClockHome is.maker knows is.own)
+
     its_grounded : All (IsGrounded its_own) (entries_by change_maker number b.board.notes)
     its_grounded =
         both_there (λ pass. Knows change_maker (page_of pass) b.board.notes) (IsBoardPass d desk.caller.work) (All (IsGrounded its_own) (entries_by change_maker number b.board.notes)) desk.board left.board left.is.board
@@ -187,7 +210,7 @@ module _ (d : Domain) (b : Back) (count : length b.queues ≡ length d.queues.it
       work = its_work;
       made = left.is.made;
       grounded = its_grounded;
-      theirs = all_theirs d b number its_own its_work left.is.made (record { board = at_board; queues = at_queues; home = left.home });
+      theirs = all_theirs d b number its_own its_work (record { board = at_board; queues = at_queues; clock = at_clock; home = left.home });
       home = left.home;
     }
 

@@ -13,6 +13,7 @@ use Rattle.xa_client_worker.specs.xa_worker.Ending.{workers_of}
 use Rattle.xa_client_worker.proofs.xa_worker.Ending.{crew_is_run}
 use Rattle.xa_client_worker.proofs.xa_worker.Placed.{merge_of}
 use Rattle.xa_client_worker.proofs.xa_worker.Workers.{each_merged}
+use Rattle.xa_client_worker.specs.xa_ticks.Clock.{made_in as moves_in}
 use Rattle.xa_client_worker.specs.xa_held.Board.{made_in}
 use Rattle.xa_client_worker.specs.xa_held.Kept.{Kept}
 use Rattle.xa_client_worker.specs.xa_worker.Work.{WorkState}
@@ -31,7 +32,7 @@ use Rattle.xa_history.proofs.Recorded.{held, each_held, names, names_are}
 pub merged_run : (d : Domain) (b : Back) (domain : WorkState) (desks : List Desk) (homes : List Notes) (events : List Event) → AllLeft d b domain desks → HoldAll d b homes → IsMerged homes events
     → Run (opening d.setup d.clients) events (record { setup = d.setup; clients = d.clients; past = reverse events })
 merged_run d b domain desks homes events all hold merged =
-    crew_is_run d.setup d.clients (made_in b.board.notes) [] (map (λ (kept : Kept Filling). kept.queue.entries) b.queues) b.own (workers_of d.setup d.clients) (noted_of domain desks) homes events (desks_are_crew d b domain desks all) (homes_met d b domain desks all) hold merged
+    crew_is_run d.setup d.clients (made_in b.board.notes) (moves_in b.clock.entries) (map (λ (kept : Kept Filling). kept.queue.entries) b.queues) b.own (workers_of d.setup d.clients) (noted_of domain desks) homes events (desks_are_crew d b domain desks all) (homes_met d b domain desks all) hold merged
 
 pub merged_made : (d : Domain) (b : Back) (domain : WorkState) (desks : List Desk) (homes : List Notes) (events : List Event) → AllLeft d b domain desks → HoldAll d b homes → IsMerged homes events → All IsMade (reverse events)
 merged_made d b domain desks homes events all hold merged =

@@ -24,6 +24,7 @@ use Rattle.xa_client_worker.proofs.xa_worker.Ending.{are_homes}
 use Rattle.xa_client_worker.proofs.xa_worker.Lists.{All-makers, filter-yes, filter-no, same_home-is}
 use Rattle.xa_client_worker.proofs.xa_worker.Placed.{IsHeld}
 use Rattle.xa_client_worker.proofs.xa_worker.Workers.{Mounts, mounts, mounts-above}
+use Rattle.xa_client_worker.specs.xa_ticks.Clock.{made_in as moves_in}
 use Rattle.xa_client_worker.specs.xa_held.Board.{made_in}
 use Rattle.xa_client_worker.specs.xa_held.Kept.{Kept}
 use Rattle.xa_client_worker.specs.xa_caller.declared.cargo.Filling.{Filling}
@@ -217,7 +218,7 @@ module _ (d : Domain) (b : Back) (domain : WorkState) (desks : List Desk) (all :
   names = all_homes d.setup d.clients
 
   pub names_are : (homes : List Notes) → HoldAll d b homes → AreHomes names (kept_of b) homes
-  names_are homes hold = are_homes d.setup d.clients (made_in b.board.notes) [] (map (λ (kept : Kept Filling). kept.queue.entries) b.queues) b.own homes hold
+  names_are homes hold = are_homes d.setup d.clients (made_in b.board.notes) (moves_in b.clock.entries) (map (λ (kept : Kept Filling). kept.queue.entries) b.queues) b.own homes hold
 
 pub recorded : (d : Domain) (b : Back) (domain : WorkState) (desks : List Desk) (homes : List Notes) → AllLeft d b domain desks → HoldAll d b homes → AreTold d.setup d.clients homes → IsRecorded d.setup d.clients homes
 recorded d b domain desks homes all hold told =

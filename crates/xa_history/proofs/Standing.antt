@@ -89,7 +89,7 @@ module _ (d : Domain) (b : Back) (domain : WorkState) (desks : List Desk) (all :
   pub makers_at : (home : Home) → All IsLow (kept_of b home)
   makers_at BoardHome = change_makers workers b.board.notes all.makers
   makers_at (QueueHome queue) = subst (λ (o : Option (List Made)). All IsLow (list_in o)) (sym (numbered_map (λ (kept : Kept Filling). kept.queue.entries) queue b.queues)) (queue_makers queue (numbered queue b.queues) refl)
-  makers_at ClockHome = All-nil IsLow
+  makers_at ClockHome = all.movers
   makers_at (CallerHome caller) = elim (cases_lt caller workers) [
     | inl low ↦ All-weaker (λ (entry : Made). maker_of entry ≡ caller) IsLow (λ entry is. omega (arith, is, low)) (made_by (record { 0 = caller }) (list_in (numbered caller b.own))) (all_of_maker (record { 0 = caller }) caller (list_in (numbered caller b.own)) refl)
     | inr high ↦ subst (λ (l : List Stamped). All IsLow (made_by (record { 0 = caller }) l)) (sym (nothing_past caller b.own (let own = all.own in let count = all.count in omega (arith, high, own, count)))) (All-nil IsLow)

@@ -6,6 +6,7 @@ use Rattle.xa_client_worker.specs.xa_types.Setup.{numbered, queue_of}
 use Rattle.xa_client_worker.specs.xa_events.Words.{EachNumbered}
 use Rattle.xa_client_worker.specs.xa_stamp.Home.{Notes}
 use Rattle.xa_client_worker.specs.xa_worker.Ending.{AreAll}
+use Rattle.xa_client_worker.specs.xa_ticks.Clock.{made_in as moves_in}
 use Rattle.xa_client_worker.specs.xa_held.Board.{made_in}
 use Rattle.xa_client_worker.specs.xa_held.Kept.{Kept}
 use Rattle.xa_client_worker.specs.xa_worker.Work.{WorkState}
@@ -37,7 +38,7 @@ EachServer d desks servers Whole = EachNumbered (λ k (x : ServerEnd). IsSomeAnd
 -- all of it: the workers left, these are all homes, in their order, and each server shows its lives
 pub record Ends (d : Domain) (b : Back) (domain : WorkState) (desks : List Desk) (servers : List ServerEnd) (homes : List Notes) (Whole : Type 0) : Type 0 where
   pub left : AllLeft d b domain desks
-  pub homes_are : AreAll d.setup d.clients (made_in b.board.notes) [] (map (λ (kept : Kept Filling). kept.queue.entries) b.queues) b.own homes
+  pub homes_are : AreAll d.setup d.clients (made_in b.board.notes) (moves_in b.clock.entries) (map (λ (kept : Kept Filling). kept.queue.entries) b.queues) b.own homes
   pub count : length servers ≡ length d.setup.servers
   pub names : map (λ (x : ServerEnd). x.shown.name) servers ≡ map (λ (server : ServerSetup). server.name) d.setup.servers
   pub each : EachServer d desks servers Whole

@@ -20,6 +20,7 @@ use Rattle.xa_client_worker.specs.xa_stamp.declared.home.Stamped.{Stamped}
 use Rattle.xa_client_worker.specs.xa_stamp.Home.{Notes, Rises}
 use Rattle.xa_client_worker.specs.xa_stamp.Merge.{stamps_of}
 use Rattle.xa_client_worker.specs.xa_worker.Ending.{AreAll, list_in}
+use Rattle.xa_client_worker.specs.xa_ticks.Clock.{made_in as moves_in}
 use Rattle.xa_client_worker.specs.xa_held.Board.{made_in}
 use Rattle.xa_client_worker.specs.xa_held.Kept.{Kept}
 use Rattle.xa_client_worker.specs.xa_worker.declared.work.Halt.{Halt}
@@ -40,7 +41,7 @@ use Rattle.xa_history.specs.Told.{AreTold}
 
 -- these are all homes that a domain leaves, in their order
 abbrev pub HoldAll : Domain → Back → List Notes → Type 0
-HoldAll d b homes = AreAll d.setup d.clients (made_in b.board.notes) [] (map (λ (kept : Kept Filling). kept.queue.entries) b.queues) b.own homes
+HoldAll d b homes = AreAll d.setup d.clients (made_in b.board.notes) (moves_in b.clock.entries) (map (λ (kept : Kept Filling). kept.queue.entries) b.queues) b.own homes
 
 -- only events of that home stand there, and each has a greater stamp than the one before it
 pub record IsOwn (setup : Setup) (clients : ℕ) (home : Home) (notes : Notes) : Type 0 where

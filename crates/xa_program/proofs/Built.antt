@@ -6,7 +6,7 @@ use Rattle.std.specs.Str.Lines.{lines}
 use Rattle.std.proofs.lemmas.List.Elements.{All-cons}
 use Rattle.xa_domain.specs.xa_types.declared.setup.Setup.{Setup}
 use Rattle.xa_domain.specs.xa_types.declared.call.Op.{Op}
-use Rattle.xa_domain.specs.xa_types.declared.call.Op.TheVariants.{Call, Priority, Advertise, Unadvertise}
+use Rattle.xa_domain.specs.xa_types.declared.call.Op.TheVariants.{Call, Priority, Advertise, Unadvertise, Tick}
 use Rattle.xa_domain.specs.xa_script.declared.script.Client.{Client}
 use Rattle.xa_domain.specs.xa_client_worker.Going.{IsCall, AllCalls}
 use Rattle.xa_domain.specs.Working.{IsBuiltClient}
@@ -43,6 +43,7 @@ served_built (Call ask) served = tt
 served_built (Priority absolute amount) served = tt
 served_built (Advertise service routine) served = tt
 served_built (Unadvertise service) served = tt
+served_built (Tick n) served = tt
 served_built op served = absurd cc
 
 calls_built : (ops : List Op) → AllByRecursion IsServed ops → AllCalls ops

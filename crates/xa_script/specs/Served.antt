@@ -3,10 +3,11 @@ use Rattle.std.specs.Prelude.{Bool, true, false}
 use Rattle.xa_types.specs.declared.call.Op.{Op}
 use Rattle.xa_types.specs.declared.call.Op.TheVariants as ops
 
--- a tpcall, a call that sets the priority of the next request, or one that would change the board
+-- a tpcall, a call that sets the priority of the next request, or one that would change the board or the clock
 abbrev pub is_served : Op → Bool
 is_served (ops.Call ask) = true
 is_served (ops.Priority absolute amount) = true
 is_served (ops.Advertise service routine) = true
 is_served (ops.Unadvertise service) = true
+is_served (ops.Tick n) = true
 is_served op = false

@@ -64,7 +64,7 @@ fn is_served(op: &Op) -> bool
 {
     matches!(
         op,
-        Op::Call(_) | Op::Priority(_, _) | Op::Advertise(_, _) | Op::Unadvertise(_)
+        Op::Call(_) | Op::Priority(_, _) | Op::Advertise(_, _) | Op::Unadvertise(_) | Op::Tick(_)
     )
 }
 

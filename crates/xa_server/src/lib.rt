@@ -45,7 +45,7 @@ pub mod link {
 }
 
 pub mod lock {
-    pub use xa_caller::lock::{Guarded, Held, LockPass};
+    pub use xa_caller::lock::{Guarded, Held, LockPass, Made};
 }
 
 pub mod pipe {

@@ -83,8 +83,8 @@ use Rattle.xa_desk.proofs.OwnQueue.{no_client}
 use Rattle.xa_desk.proofs.Staying.{taken_stays}
 use Rattle.xa_calls.specs.declared.telling.Told.{Told}
 use Rattle.xa_calls.specs.declared.telling.Told.TheVariants as tells
-use Rattle.xa_calls.specs.Going.{IsReady, IsStopped, IsCallBy, PerformsBy}
-use Rattle.xa_calls.specs.Telling.{IsQuiet, NotesOne, Accepts, StoppedIn, Says, IsTold}
+use Rattle.xa_calls.specs.Going.{IsReady, IsStopped, IsCall, PerformsBy}
+use Rattle.xa_calls.specs.Telling.{IsQuiet, NotesOne, Accepts, StoppedIn, Says, IsNow, IsTold}
 use Rattle.xa_server_worker.specs.declared.working.ServerWorker.{ServerWorker}
 use Rattle.xa_server_worker.specs.Attending.{is_want, IsNewest, IsReplyTo, called_out}
 use Rattle.xa_server_worker.specs.Behind.{IsCalm, ends_by}
@@ -150,13 +150,13 @@ want_is Elsewhere is = absurd (cc is)
 -- ---- the calls of a server
 
 -- a service may ask for what a caller may call
-pub may_be_called : (clients caller : ℕ) (op : Op) → is_client clients caller ≡ false → may_call op ≡ true → IsCallBy clients caller op
-may_be_called clients caller (Call ask) server may = tt
-may_be_called clients caller (Priority absolute amount) server may = tt
-may_be_called clients caller (Advertise service routine) server may = tt
-may_be_called clients caller (Unadvertise service) server may = tt
-may_be_called clients caller (Tick n) server may = server
-may_be_called clients caller op server may = absurd (cc may)
+pub may_be_called : (op : Op) → may_call op ≡ true → IsCall op
+may_be_called (Call ask) may = tt
+may_be_called (Priority absolute amount) may = tt
+may_be_called (Advertise service routine) may = tt
+may_be_called (Unadvertise service) may = tt
+may_be_called (Tick n) may = tt
+may_be_called op may = absurd (cc may)
 
 at_length : (ops behind : List Op) (op : Op) → slice_get (ops ++ op ∷ behind) (length ops) ≡ Some op
 at_length [] behind op = refl
@@ -463,12 +463,14 @@ module _ {L T : Type 0} {d : Domain} {shows : T → StarterShows} (w : ServerWor
         inr (and_from (nat_lt w.desk.caller.work.clients caller) (is_busy (doing (caller - w.desk.caller.work.clients) (own_of w))) (lt-ltb w.desk.caller.work.clients caller (omega (arith, number, some)))
         (ap (λ (k : ℕ). is_busy (doing k (own_of w))) server ∙ (ap is_busy (its.at.serving.stands.tables.reads.moved ∙ its.does))))
 
-    pub may_be_made : IsCallBy d.clients caller op
-    may_be_made =
+    pub may_be_made : IsCall op
+    may_be_made = may_be_called op calling.may
+
+    its_server : is_client w.desk.caller.work.clients caller ≡ false
+    its_server =
         let number = number_of its.at.serving in
         let some = some_server slot.server.0 _ _ its.at.serving.stands.tables.worker.rule in
-        let clients : w.desk.caller.work.clients ≡ d.clients = its.at.is.clients in
-        may_be_called d.clients caller op (no_client d.clients caller (omega (arith, number, some, clients))) calling.may
+        no_client w.desk.caller.work.clients caller (omega (arith, number, some))
 
     pub is_ready : IsReady d w.desk.caller.op w.desk
     is_ready = record { is = its.at.is; idle = its.at.serving.idle; made = refl }
@@ -521,7 +523,7 @@ module _ {L T : Type 0} {d : Domain} {shows : T → StarterShows} (w : ServerWor
         adds =
             let at = call_at (caller_of d.clients slot.server.0) (caller_is its.at.is its.at.serving) in
             let does : doing slot.server.0 (own_of w) ≡ Busy life.generation t.request = ap (λ s. doing s.0 (own_of w)) (sym its.last.server) ∙ doing_now in
-            call_adds steps slot.server.0 slot.made number life.generation t.request (number_of its.at.serving) at.0 at.1 does its.last.number is.ticks
+            call_adds steps slot.server.0 slot.made number life.generation t.request (number_of its.at.serving) at.0 at.1 does its.last.number (is.ticks its_server)
 
         calm : IsCalm w.desk → IsCalm desk'
         calm =
@@ -553,6 +555,7 @@ module _ {L T : Type 0} {d : Domain} {shows : T → StarterShows} (w : ServerWor
         replied_is : (what : Told) (reply : Reply) → Says what number desk'.caller.work.id.0 (theirs desk'.caller.work) → IsReplyTo what reply desk' → reply ≡ reply_at (theirs desk'.caller.work) desk'.caller.work.id.0 number
         replied_is tells.Done reply says by = by ∙ sym says
         replied_is (tells.Fault fault) reply says by = by ∙ sym says
+        replied_is (tells.Now tick) reply says by = absurd by
         replied_is tells.Answered reply says (a, newest, by) =
             let first = answered_first a newest in
             let same : says.0 ≡ a = cc (sym says.2 ∙ first.1) in
@@ -585,12 +588,13 @@ module _ {L T : Type 0} {d : Domain} {shows : T → StarterShows} (w : ServerWor
                 first_op (x ∷ y ∷ others) are = absurd are
 
         pub tells_it : (reply : Reply) × IsReplyTo told reply desk'
-        tells_it = by told is.says
+        tells_it = by told (is.clock its_server) is.says
           where
-            by : (what : Told) → Says what number desk'.caller.work.id.0 (theirs desk'.caller.work) → (reply : Reply) × IsReplyTo what reply desk'
-            by tells.Done says = (replies.Done, refl)
-            by (tells.Fault fault) says = (replies.Fault fault, refl)
-            by tells.Answered says = (replies.Answered 0 says.0.answer, (says.0, newest_of says.0 says.1 says.2 says.4, refl))
+            by : (what : Told) → (IsNow what → ⊥) → Says what number desk'.caller.work.id.0 (theirs desk'.caller.work) → (reply : Reply) × IsReplyTo what reply desk'
+            by tells.Done never says = (replies.Done, refl)
+            by (tells.Fault fault) never says = (replies.Fault fault, refl)
+            by (tells.Now tick) never says = absurd (never tt)
+            by tells.Answered never says = (replies.Answered 0 says.0.answer, (says.0, newest_of says.0 says.1 says.2 says.4, refl))
 
         handed_after : AtEach (IsHanded life.server.0 life.generation.0 (invokes_of life) (IsSentFor d w.queue.0 desk')) (more ++ own_of w)
         handed_after =

@@ -46,6 +46,7 @@ fn reply<L: Link>(desk: &Desk, life: Life<L>, told: Told) -> Result<Life<L>, End
     match told {
         Told::Done => life.reply(&Reply::Done),
         Told::Fault(fault) => life.reply(&Reply::Fault(fault)),
+        Told::Now(_) => unreachable!(),
         Told::Answered => match desk.caller.entries() {
             [.., newest] => match &newest.event {
                 Event::Answer(replied) => life.reply_answer(0, &replied.answer),

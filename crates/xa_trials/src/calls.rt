@@ -1,5 +1,5 @@
-//! Runs whose services call others, or change the board, while they work (XATMI, tpcall, tpadvertise and tpunadvertise): what
-//! each call of a client is told.
+//! Runs whose services call others, or change the board, while they work (XATMI, tpcall, tpadvertise and tpunadvertise), and
+//! whose clients move the clock on: what each call of a client is told.
 use crate::gated::history_of;
 use crate::rows::none_fails;
 use crate::running::Runtime;
@@ -129,6 +129,21 @@ static CHANGES: [Row; 6] = [
     ),
 ];
 
+static TICKS: [Row; 2] = [
+    // The clock begins with 0, and goes on by each tick.
+    (
+        b"client a\ntick 3\ncall ECHO text \"x\"\ntick 2147483647\ntick 1\n",
+        b"a 1 NOW 3\na 2 OK 0 octet 78\na 3 NOW 2147483650\na 4 NOW 2147483651\n",
+        0,
+    ),
+    // A tick uses up no priority, and its number is one of the client's calls.
+    (
+        b"client a\nprio abs 7\ntick 1\ncall ECHO none\nadvertise X ECHO\ntick 1\n",
+        b"a 1 DONE\na 2 NOW 1\na 3 OK 0 none\na 4 TPEPROTO\na 5 NOW 2\n",
+        0,
+    ),
+];
+
 // Whether it is a request that a server sent, or a change that it made.
 fn is_of_server(event: &Event) -> bool {
     let by = match event {
@@ -174,4 +189,9 @@ fn services_call(rt: HostRuntime) {
 #[test]
 fn services_change_the_board(rt: HostRuntime) {
     none_fails(&rt, first_not_made(&rt, CHANGING, &CHANGES));
+}
+
+#[test]
+fn clients_move_the_clock(rt: HostRuntime) {
+    none_fails(&rt, first_not_made(&rt, CONFIG, &TICKS));
 }

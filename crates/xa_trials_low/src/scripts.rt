@@ -256,7 +256,7 @@ static LINES: [(&[u8], u8); 119] = [
     (b"unadvertise A B", 4),
     (b"tick", 4),
     (b"tick 0", 4),
-    (b"tick 2147483647", 9),
+    (b"tick 2147483647", 0),
     (b"tick 2147483648", 4),
     (b"tick 1 1", 4),
 ];

@@ -12,8 +12,8 @@ returns c =
     let board = c.requires.board in
     let seats = c.requires.seats in
     let locked = c.requires.locked in
-    let d : Domain = record { setup = c.args.setup; shapes = c.args.supplies.shapes; clients = c.args.clients; booted = c.args.board.booted; cells = c.args.cells; board = c.args.board.lock; queues = c.args.locked.queues; waits = c.args.supplies.waits; halt = c.new.result } in
-    let staff : Staff = record { left = c.args.left; own = c.args.board.own; version = c.args.board.version; seats = c.args.seats; readers = c.args.board.readers; boards = c.args.board.passes; queues = c.args.locked.passes; rooms = c.args.supplies.rooms } in
+    let d : Domain = record { setup = c.args.setup; shapes = c.args.supplies.shapes; clients = c.args.clients; booted = c.args.board.booted; cells = c.args.cells; board = c.args.board.lock; queues = c.args.locked.queues; clock = c.args.supplies.clock.lock; waits = c.args.supplies.waits; halt = c.new.result } in
+    let staff : Staff = record { left = c.args.left; own = c.args.board.own; version = c.args.board.version; seats = c.args.seats; readers = c.args.board.readers; boards = c.args.board.passes; queues = c.args.locked.passes; clocks = c.args.supplies.clock.passes; rooms = c.args.supplies.rooms } in
     record {
       domain = record { configured = c.requires.configured; shapes = supplies.shapes; queues = locked.count };
       setup_is = refl;
@@ -21,8 +21,9 @@ returns c =
       dealt = record {
         board = board.all ∙ left;
         queues = λ k queue within. all_dealt d c.args.left c.args.locked.passes.items locked.each k queue within ∙ left;
+        clock = supplies.clock.all;
         cells = seats.callers ∙ supplies.each_limit;
       };
-      left = subst (λ n. AreLeft d n staff) left (all_left d staff c.args.supplies.limits.items board.boot board.booted board.version board.passes board.count board.readers (supplies.count ∙ sym left) supplies.rooms locked.count locked.each supplies.limits (supplies.each_limit ∙ sym left) seats);
+      left = subst (λ n. AreLeft d n staff) left (all_left d staff c.args.supplies.limits.items board.boot board.booted board.version board.passes board.count board.readers supplies.clock.passes (supplies.clock.count ∙ sym left) (supplies.count ∙ sym left) supplies.rooms locked.count locked.each supplies.limits (supplies.each_limit ∙ sym left) seats);
       lives = supplies.lives;
     }

@@ -31,6 +31,7 @@ add-requires g c =
       board = its.0;
       count = its.1;
       there = its.2;
+      clock = its.3;
       space = (next_room c.args.clients.items c.loop-client.rest.rest.items c.next.new.self.rest.items c.in-Some.client c.args.all.now c.loop-client.all c.in-Some.ensures.items c.loop-client.invariant.space c.requires.space).tokens_space;
     }
 
@@ -53,7 +54,7 @@ loop-client-preserved g c =
           clients_more c.args.domain.now itself scripts c.args.clients.items c.args.all.now rest left c.in-Some.client ended now new c.home.result (c.loop-client.invariant.so_far itself scripts before) c.in-Some.ensures.items c.end-done.ensures.ends
           c.first_of-all.ensures c.add.ensures c.push_reserved.ensures.items c.home.ensures.entries c.home.ensures.sound;
       space = λ more room.
-          one_worker_less (length left + more) (length rest + more) ended.done.left.seat ended.done.board ended.done.queues.items c.home.result now new (omega (arith, some)) c.add.ensures c.push_reserved.ensures.items c.push_reserved.ensures.capacity
+          one_worker_less (length left + more) (length rest + more) ended.done.left.seat ended.done.board ended.done.queues.items ended.done.clock c.home.result now new (omega (arith, some)) c.add.ensures c.push_reserved.ensures.items c.push_reserved.ensures.capacity
           (c.loop-client.invariant.space more room);
       kept = record { same_lives = c.loop-client.invariant.kept.same_lives; same_cut = c.loop-client.invariant.kept.same_cut; same_starters = c.loop-client.invariant.kept.same_starters };
     }

@@ -38,7 +38,7 @@ add-requires g c =
     let its = server_may_add c.args.domain.now shows may.0 may.1 c.args.servers.items c.args.all.now may.2 c.loop-server.rest.rest.items c.abandon-left.result left.0 c.loop-server.all so_far left.1 left.2.desk in
     let some = ap length c.in-Some.ensures.items in
     let one : 1 ≤ length c.loop-server.rest.rest.items = omega (arith, some) in
-    record { board = its.0; count = its.1; there = its.2; space = (less_workers 1 (length c.loop-server.rest.rest.items) c.loop-server.all one c.loop-server.invariant.space.worker_space).tokens_space }
+    record { board = its.0; count = its.1; there = its.2; clock = its.3; space = (less_workers 1 (length c.loop-server.rest.rest.items) c.loop-server.all one c.loop-server.invariant.space.worker_space).tokens_space }
 
 pub push_reserved-requires : goal.push_reserved-requires
 push_reserved-requires g c = let some = ap length c.in-Some.ensures.items in let room = c.loop-server.invariant.space.worker_space.callers_space in let len = c.loop-server.all.callers.ok.0 in omega (arith, some, room, len)
@@ -71,7 +71,7 @@ loop-server-preserved g c =
           ended.1 (record { leads = ended.2; work = ended.3; fills = ended.5 }) c.first_of-all.ensures c.add.ensures c.push_reserved.ensures.items c.home.ensures.entries c.home.ensures.sound
           c.push_reserved-in-Some.ensures.items c.push_reserved-in-Some-2.ensures.items c.push_reserved-in-Some-3.ensures.items;
       space = record {
-        worker_space = one_worker_less (length left) (length rest) done.left.seat done.board done.queues.items c.home.result now new one c.add.ensures c.push_reserved.ensures.items c.push_reserved.ensures.capacity space.worker_space;
+        worker_space = one_worker_less (length left) (length rest) done.left.seat done.board done.queues.items done.clock c.home.result now new one c.add.ensures c.push_reserved.ensures.items c.push_reserved.ensures.capacity space.worker_space;
         lives_space = one_less (length left) (length rest) w.served.lives now.lives new.lives one c.push_reserved-in-Some.ensures.items c.push_reserved-in-Some.ensures.capacity space.lives_space;
         cut_space = one_less (length left) (length rest) w.cut now.cut new.cut one c.push_reserved-in-Some-2.ensures.items c.push_reserved-in-Some-2.ensures.capacity space.cut_space;
         starters_space = one_less (length left) (length rest) w.served.starter now.starters new.starters one c.push_reserved-in-Some-3.ensures.items c.push_reserved-in-Some-3.ensures.capacity space.starters_space;

@@ -1,7 +1,7 @@
 use Rattle.std.proofs.Common.{◌+◌, ℕ, length, refl, sym, ◌∙◌, subst, arith}
 use Rattle.xa_boot.specs.xa_server.Served.{StarterShows}
 use Rattle.xa_boot.specs.xa_desk.Desks.{IsBoardPass, IsQueuePass}
-use Rattle.xa_boot.specs.Booting.{work_of}
+use Rattle.xa_boot.specs.Booting.{IsClockFor, work_of}
 use Rattle.xa_domain.specs.declared.gathering.Gathered.{Gathered}
 use Rattle.xa_domain.specs.Leaving.{itself_of}
 use Rattle.xa_domain.specs.Gathering.{HasServerSpace, IsBeforeClients}
@@ -19,6 +19,7 @@ add-requires g c =
       board = there_some (IsBoardPass d (work_of d c.args.closer)) c.args.closer.board is.board;
       count = is.count ∙ sym room.count;
       there = all_some (IsQueuePass d (work_of d c.args.closer)) (length d.queues.items) c.args.closer.queues.items is.count is.queues;
+      clock = there_some (IsClockFor d.clock 0) c.args.closer.clock is.clock;
       space = less_space 1 workers c.args.room.tokens (omega arith) (token_space (length d.queues.items) workers c.args.room.tokens room);
     }
 
@@ -33,7 +34,7 @@ add_clients-requires g c =
     record {
       domain = c.requires.domain;
       may = (itself_of d closer, c.requires.done.0, record { done = c.requires.done.1; taken = nothing_taken d shows (length d.queues.items) d.clients servers closer room c.add.new.self c.requires.room refl c.add.ensures });
-      space = less_workers (length c.args.clients.items) (d.clients + servers) (record room { tokens = c.add.new.self }) (omega (arith, many)) (room_after (length d.queues.items) d.clients servers closer.seat closer.board closer.queues.items room c.add.new.self c.requires.room c.add.ensures);
+      space = less_workers (length c.args.clients.items) (d.clients + servers) (record room { tokens = c.add.new.self }) (omega (arith, many)) (room_after (length d.queues.items) d.clients servers closer.seat closer.board closer.queues.items closer.clock room c.add.new.self c.requires.room c.add.ensures);
     }
 
 pub add_servers-requires : goal.add_servers-requires
@@ -49,7 +50,7 @@ add_servers-requires g c =
     let many = c.requires.all_clients in
     let before : IsBeforeClients d (itself_of d closer) c.requires.done.0 c.args.clients.items g0 = record { done = c.requires.done.1; taken = nothing_taken d shows queues d.clients servers closer room c.add.new.self c.requires.room refl c.add.ensures } in
     let has = c.add_clients.ensures.taken (itself_of d closer) c.requires.done.0 before in
-    let space = c.add_clients.ensures.space servers (less_workers (length c.args.clients.items + servers) (d.clients + servers) g0 (omega (arith, many)) (room_after queues d.clients servers closer.seat closer.board closer.queues.items room c.add.new.self c.requires.room c.add.ensures)) in
+    let space = c.add_clients.ensures.space servers (less_workers (length c.args.clients.items + servers) (d.clients + servers) g0 (omega (arith, many)) (room_after queues d.clients servers closer.seat closer.board closer.queues.items closer.clock room c.add.new.self c.requires.room c.add.ensures)) in
     record {
       domain = c.requires.domain;
       may = (itself_of d closer, has.desks, before_servers d shows queues d.clients servers (itself_of d closer) c.requires.done.0 c.args.clients.items c.args.servers.items room c.add.new.self g1 c.requires.room c.add_clients.ensures.kept many has c.requires.over);

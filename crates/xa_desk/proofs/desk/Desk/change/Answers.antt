@@ -2,7 +2,7 @@ use Rattle.std.proofs.Common.{◌+◌, ◌<◌, ◌-◌, ℕ, length, sym, ◌�
 use Rattle.xa_server.specs.xa_types.Setup.{queue_of}
 use Rattle.xa_server.specs.xa_types.declared.ids.CallerId.{CallerId}
 use Rattle.xa_desk.proofs.OwnQueue.{its_queue, is_itself, is_at_work}
-use Rattle.xa_desk.proofs.Refusals.{client_refused, tick_refused}
+use Rattle.xa_desk.proofs.Refusals.{client_refused}
 use Rattle.xa_desk.proofs.desk.Desk.change.Goals as goal
 
 pub refuse_role-requires-clause-so : goal.refuse_role-requires-clause-so
@@ -24,9 +24,3 @@ advertise-requires-clause-some g c =
     let its = its_queue d desk c.requires.domain c.requires.desk (is_at_work d desk c.requires.desk c.id-caller.result c.id-caller.ensures.value c.if-caller-domain.false c.requires.active) in
     let queue = c.queue_of-queue.ensures ∙ ap (λ (i : CallerId). queue_of d.setup (i.0 - d.clients)) c.id-caller.ensures.value in
     subst (λ (q : ℕ). (0 < q) × (q < length d.setup.queues + 1)) (sym queue) its
-
-pub refuse_role-requires-in-Tick-clause-so : goal.refuse_role-requires-in-Tick-clause-so
-refuse_role-requires-in-Tick-clause-so g c = (c.args.change.now, tick_refused c.args.domain.now c.args.self.now c.args.change.now c.in-Tick.field-0 c.in-Tick.is c.requires.kind)
-
-pub returns-in-Tick-clause-fits : goal.returns-in-Tick-clause-fits
-returns-in-Tick-clause-fits g c = c.refuse_role-in-Tick.ensures.fits c.args.change.now (tick_refused c.args.domain.now c.args.self.now c.args.change.now c.in-Tick.field-0 c.in-Tick.is c.requires.kind)

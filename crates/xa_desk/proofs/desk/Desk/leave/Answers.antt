@@ -14,7 +14,7 @@ returns c =
     record {
       left = (
         ended,
-        record { work = refl; seat = c.leave-left.ensures.seat.0; shut = c.leave-left.ensures.seat.1; board = refl; queues = refl; reader = refl },
+        record { work = refl; seat = c.leave-left.ensures.seat.0; shut = c.leave-left.ensures.seat.1; board = refl; queues = refl; clock = refl; reader = refl },
         goes.0,
         c.leave-left.ensures.work,
         goes.1,

@@ -30,7 +30,7 @@ leave-last-requires-clause-at g c = may_leave (c.enter-visit.ensures.at c.args.s
 pub returns-in-Ok : goal.returns-in-Ok
 returns-in-Ok g c =
     let new : Desk = record c.args.self.now { caller = c.given_up.new.caller; queues = c.leave-last.new.passes } in
-    let v = visited (c.enter-visit.ensures.at c.args.self.now c.requires.desk refl) refl c.value.ensures.value c.leave-last.ensures.left new refl refl (one_ours c.args.self.now c.id-maker.result c.in-Ok.field-0.noted.stamp c.in-Ok.field-0.noted.event.value c.id-maker.ensures.value) (subst (GaveUpAs (Becomes c.value.result.now c.gone-answer.new.self) c.stamp-seen.result c.id-maker.result c.server.result) c.in-Ok.is c.gone-answer.ensures) in
+    let v = visited (c.enter-visit.ensures.at c.args.self.now c.requires.desk refl) refl c.value.ensures.value c.leave-last.ensures.left new refl refl refl (one_ours c.args.self.now c.id-maker.result c.in-Ok.field-0.noted.stamp c.in-Ok.field-0.noted.event.value c.id-maker.ensures.value) (subst (GaveUpAs (Becomes c.value.result.now c.gone-answer.new.self) c.stamp-seen.result c.id-maker.result c.server.result) c.in-Ok.is c.gone-answer.ensures) in
     let caller = c.given_up.ensures.rest ∙ ap (λ (w : WorkState). record c.args.self.now.caller { work = w }) c.given_up.ensures.noted in
     let left = leaves v.step c.requires.serving c.stamp-seen.result c.id-maker.result c.server.result c.in-Ok.field-0 c.stamp-seen.ensures.value c.server.ensures v.came caller c.given_up.new.self c.given_up.ensures.stands c.given_up.ensures.slot in
     record { leads = left.0; serving = left.1; gone = left.2; board = (refl, refl) }
@@ -38,7 +38,7 @@ returns-in-Ok g c =
 pub returns-in-Err : goal.returns-in-Err
 returns-in-Err g c =
     let new : Desk = record c.args.self.now { caller = c.saw.new.self; queues = c.leave-last.new.passes } in
-    let v = visited (c.enter-visit.ensures.at c.args.self.now c.requires.desk refl) refl c.value.ensures.value c.leave-last.ensures.left new refl refl (none_ours c.args.self.now) (subst (GaveUpAs (Becomes c.value.result.now c.gone-answer.new.self) c.stamp-seen.result c.id-maker.result c.server.result) c.in-Err.is c.gone-answer.ensures) in
+    let v = visited (c.enter-visit.ensures.at c.args.self.now c.requires.desk refl) refl c.value.ensures.value c.leave-last.ensures.left new refl refl refl (none_ours c.args.self.now) (subst (GaveUpAs (Becomes c.value.result.now c.gone-answer.new.self) c.stamp-seen.result c.id-maker.result c.server.result) c.in-Err.is c.gone-answer.ensures) in
     record {
       leads = looked_leads v.step v.came c.saw.ensures;
       serving = looks_serve v.step c.requires.serving v.came c.saw.ensures;

@@ -22,7 +22,7 @@ returns g c =
     let last = c.leave_board-last.result in
     let new : Desk = record c.args.self.now { caller = c.saw.new.self; reader = c.lookup-look.new.reader; board = c.leave_board-last.new.pass } in
     let ours = one_there c.args.self.now maker (Looked look) c.id-maker.ensures.value (ap (λ (m : CallerId). m.0) looked.how.0.its) in
-    let v = board_visited (c.enter_board-board.ensures.at c.args.self.now c.requires.desk refl) c.value.ensures.value c.leave_board-last.ensures.left new refl refl ours looked in
+    let v = board_visited (c.enter_board-board.ensures.at c.args.self.now c.requires.desk refl) c.value.ensures.value c.leave_board-last.ensures.left new refl refl refl ours looked in
     record {
       leads = look_leads v.step maker name found look last v.came v.reaches c.saw.ensures;
       found = look_found v.step maker name found look last v.came v.reaches c.saw.ensures c.requires.domain;

@@ -37,7 +37,7 @@ returns-in-Ok g c =
     let slot = c.args.slot.now in
     let slot' = c.forwarded.new.self in
     let new : Desk = record old { caller = c.forwarded.new.caller; queues = c.leave-last.new.passes } in
-    let v = visited (c.enter-visit.ensures.at c.args.self.now c.requires.desk refl) c.queue_of-queue.ensures c.value.ensures.value c.leave-last.ensures.left new refl refl (one_ours c.args.self.now c.id-maker.result c.in-Ok.stamp c.args.event c.id-maker.ensures.value) (subst (PutAs (Becomes c.value.result.now c.put-answer.new.self) c.stamp-seen.result c.id-maker.result c.args.event c.args.entry) c.in-Ok.is c.put-answer.ensures) in
+    let v = visited (c.enter-visit.ensures.at c.args.self.now c.requires.desk refl) c.queue_of-queue.ensures c.value.ensures.value c.leave-last.ensures.left new refl refl refl (one_ours c.args.self.now c.id-maker.result c.in-Ok.stamp c.args.event c.id-maker.ensures.value) (subst (PutAs (Becomes c.value.result.now c.put-answer.new.self) c.stamp-seen.result c.id-maker.result c.args.event c.args.entry) c.in-Ok.is c.put-answer.ensures) in
     let goes = subst (λ (found : FoundRows). GoesOn c.in-Ok.stamp found.version c.args.event slot' slot new.caller old.caller) (c.behind-self.view_is ∙ c.found.ensures)
     (subst (λ (e : Event). GoesOn c.in-Ok.stamp c.behind-self.inside.version e slot' slot new.caller old.caller) c.of-forwarded.ensures c.forwarded.ensures.goes) in
     record {
@@ -56,7 +56,7 @@ pub returns-in-Err : goal.returns-in-Err
 returns-in-Err g c =
     let new : Desk = record c.args.self.now { caller = c.saw.new.self; queues = c.leave-last.new.passes } in
     let put = subst (PutAs (Becomes c.value.result.now c.put-answer.new.self) c.stamp-seen.result c.id-maker.result c.args.event c.args.entry) c.in-Err.is c.put-answer.ensures in
-    let v = visited (c.enter-visit.ensures.at c.args.self.now c.requires.desk refl) c.queue_of-queue.ensures c.value.ensures.value c.leave-last.ensures.left new refl refl (none_ours c.args.self.now) put.1 in
+    let v = visited (c.enter-visit.ensures.at c.args.self.now c.requires.desk refl) c.queue_of-queue.ensures c.value.ensures.value c.leave-last.ensures.left new refl refl refl (none_ours c.args.self.now) put.1 in
     record {
       leads = looked_leads v.step v.came c.saw.ensures;
       goes = tt;

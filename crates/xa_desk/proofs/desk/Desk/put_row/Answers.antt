@@ -33,7 +33,7 @@ changed-requires-clause-recent g c =
     let new : Desk = record c.args.self.now { board = c.leave_board-last.new.pass } in
     let at = c.enter_board-board.ensures.at c.args.self.now c.requires.desk refl in
     let did = subst (AdvertisedAs (Turns c.value.result.now c.advertise-answer.new.self) c.stamp-seen.result c.id-maker.result c.id-maker.result c.args.op c.row_for-row.result) c.in-Ok.is c.advertise-answer.ensures in
-    let v = board_visited at c.value.ensures.value c.leave_board-last.ensures.left new refl refl (one_there c.args.self.now c.id-maker.result _ c.id-maker.ensures.value refl) did in
+    let v = board_visited at c.value.ensures.value c.leave_board-last.ensures.left new refl refl refl (one_there c.args.self.now c.id-maker.result _ c.id-maker.ensures.value refl) did in
     recent v.step c.stamp-seen.result c.stamp-seen.ensures.value c.id-maker.result c.in-Ok.changed _ _ _ v.came
 
 pub returns-in-Ok-clause-moves : goal.returns-in-Ok-clause-moves
@@ -43,7 +43,7 @@ returns-in-Ok-clause-moves g c =
     let new : Desk = record desk { caller = c.changed.new.self; board = c.leave_board-last.new.pass } in
     let at = c.enter_board-board.ensures.at desk c.requires.desk refl in
     let did = subst (AdvertisedAs (Turns c.value.result.now c.advertise-answer.new.self) c.stamp-seen.result c.id-maker.result c.id-maker.result c.args.op c.row_for-row.result) c.in-Ok.is c.advertise-answer.ensures in
-    let v = board_visited at c.value.ensures.value c.leave_board-last.ensures.left new refl refl (one_there desk c.id-maker.result _ c.id-maker.ensures.value refl) did in
+    let v = board_visited at c.value.ensures.value c.leave_board-last.ensures.left new refl refl refl (one_there desk c.id-maker.result _ c.id-maker.ensures.value refl) did in
     let above = ltb-true desk.caller.work.clients desk.caller.work.id.0 (and_parts (nat_lt desk.caller.work.clients desk.caller.work.id.0) _ c.requires.active).0 in
     let number = ap (λ (i : CallerId). i.0) c.id-maker.ensures.value in
     record {
@@ -69,7 +69,7 @@ returns-in-Ok-clause-fits g c named =
     let new : Desk = record desk { caller = c.changed.new.self; board = c.leave_board-last.new.pass } in
     let at = c.enter_board-board.ensures.at desk c.requires.desk refl in
     let did = subst (AdvertisedAs (Turns c.value.result.now c.advertise-answer.new.self) c.stamp-seen.result c.id-maker.result c.id-maker.result c.args.op c.row_for-row.result) c.in-Ok.is c.advertise-answer.ensures in
-    let v = board_visited at c.value.ensures.value c.leave_board-last.ensures.left new refl refl (one_there desk c.id-maker.result _ c.id-maker.ensures.value refl) did in
+    let v = board_visited at c.value.ensures.value c.leave_board-last.ensures.left new refl refl refl (one_there desk c.id-maker.result _ c.id-maker.ensures.value refl) did in
     let above = ltb-true desk.caller.work.clients desk.caller.work.id.0 (and_parts (nat_lt desk.caller.work.clients desk.caller.work.id.0) _ c.requires.active).0 in
     let number = ap (λ (i : CallerId). i.0) c.id-maker.ensures.value in
     let event = did.how.1.event_is ∙ put_event d.setup c.row_for-row.result c.args.service c.args.queue c.args.routine c.id-maker.result desk.caller.work.id c.args.op c.in-Ok.changed.version c.row_for-row.ensures c.id-maker.ensures.value in
@@ -86,7 +86,7 @@ returns-in-Err-clause-moves g c =
     let new : Desk = record desk { caller = c.saw.new.self; board = c.leave_board-last.new.pass } in
     let at = c.enter_board-board.ensures.at desk c.requires.desk refl in
     let did = subst (AdvertisedAs (Turns c.value.result.now c.advertise-answer.new.self) c.stamp-seen.result c.id-maker.result c.id-maker.result c.args.op c.row_for-row.result) c.in-Err.is c.advertise-answer.ensures in
-    let v = board_visited at c.value.ensures.value c.leave_board-last.ensures.left new refl refl (none_there desk) did in
+    let v = board_visited at c.value.ensures.value c.leave_board-last.ensures.left new refl refl refl (none_there desk) did in
     let caller = c.saw.ensures ∙ ap (λ (s : Stamp). record desk.caller { work = seeing s desk.caller.work }) c.seen_at.ensures in
     record {
       leads = barred_leads v.step c.stamp-seen.result c.stamp-seen.ensures.value c.stamp-seen.ensures.bound (λ (old : Held). advertise_refused (raised c.stamp-seen.result old) c.row_for-row.result old.board) c.in-Err.refused last v.came (put_ends c.row_for-row.result c.stamp-seen.result c.stamp-seen.ensures.bound c.in-Err.refused) caller v.reaches;
@@ -104,7 +104,7 @@ returns-in-Err-clause-barred g c =
     let new : Desk = record desk { caller = c.saw.new.self; board = c.leave_board-last.new.pass } in
     let at = c.enter_board-board.ensures.at desk c.requires.desk refl in
     let did = subst (AdvertisedAs (Turns c.value.result.now c.advertise-answer.new.self) c.stamp-seen.result c.id-maker.result c.id-maker.result c.args.op row) c.in-Err.is c.advertise-answer.ensures in
-    let v = board_visited at c.value.ensures.value c.leave_board-last.ensures.left new refl refl (none_there desk) did in
+    let v = board_visited at c.value.ensures.value c.leave_board-last.ensures.left new refl refl refl (none_there desk) did in
     let caller = c.saw.ensures ∙ ap (λ (s : Stamp). record desk.caller { work = seeing s desk.caller.work }) c.seen_at.ensures in
     let same = rows_stood v.step c.stamp-seen.result c.stamp-seen.ensures.value c.stamp-seen.ensures.bound (λ (old : Held). advertise_refused (raised c.stamp-seen.result old) row old.board) c.in-Err.refused last v.came (put_ends row c.stamp-seen.result c.stamp-seen.ensures.bound c.in-Err.refused) caller in
     of_row d.setup row c.args.service c.args.queue.0 c.args.routine c.row_for-row.ensures (λ s q r. BarsPut s q r c.in-Err.refused (rows_seen d new))

@@ -3,7 +3,7 @@ use Rattle.xa_server.specs.xa_caller.Changes.{Refuses}
 use Rattle.xa_server.specs.xa_caller.Phases.{just_in}
 use Rattle.xa_desk.specs.Advertising.{IsChangeRefusal}
 use Rattle.xa_desk.proofs.Fitting.{is_read}
-use Rattle.xa_desk.proofs.Refusals.{is_backed, refuse_goes, ok_both}
+use Rattle.xa_desk.proofs.Refusals.{is_backed, is_change_refusal, refuse_goes, ok_both}
 use Rattle.xa_desk.proofs.desk.Desk.refuse_change.Goals as goal
 
 pub returns : goal.returns
@@ -14,4 +14,4 @@ returns c =
     let backed = is_backed d desk c.requires.desk reads c.requires.so.0 c.args.fault c.args.evidence c.requires.so.1 in
     let refuse = c.refuse.ensures in
     let done = refuse_goes d desk c.requires.desk reads c.args.op c.args.fault c.args.evidence backed (ap just_in c.requires.idle) c.refuse.new.self c.refuse.result refuse.ok refuse.kept in
-    record { leads = done.0; refused = ok_both (λ stamp. Refuses c.args.op c.args.fault c.args.evidence stamp c.refuse.new.self desk.caller) (IsChangeRefusal c.args.fault c.args.evidence) backed.change c.refuse.result refuse.ok; halted = refuse.halted; kept = done.2; rest = refl; fits = done.1 }
+    record { leads = done.0; refused = ok_both (λ stamp. Refuses c.args.op c.args.fault c.args.evidence stamp c.refuse.new.self desk.caller) (IsChangeRefusal c.args.fault c.args.evidence) (is_change_refusal d desk c.requires.so.0 c.args.fault c.args.evidence c.requires.so.1) c.refuse.result refuse.ok; halted = refuse.halted; kept = done.2; rest = refl; fits = done.1 }

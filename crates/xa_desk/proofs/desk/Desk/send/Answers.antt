@@ -36,7 +36,7 @@ pub returns-in-Ok : goal.returns-in-Ok
 returns-in-Ok g c =
     let f = c.requires.found in
     let new : Desk = record c.args.self.now { caller = c.sent.new.self; queues = c.leave-last.new.passes } in
-    let v = visited (c.enter-visit.ensures.at c.args.self.now c.requires.desk refl) c.queue_of-queue.ensures c.value.ensures.value c.leave-last.ensures.left new refl refl (one_ours c.args.self.now c.id-maker.result c.in-Ok.stamp c.args.prepared.event c.id-maker.ensures.value) (subst (PutAs (Becomes c.value.result.now c.put-answer.new.self) c.stamp-seen.result c.id-maker.result c.args.prepared.event c.args.prepared.entry) c.in-Ok.is c.put-answer.ensures) in
+    let v = visited (c.enter-visit.ensures.at c.args.self.now c.requires.desk refl) c.queue_of-queue.ensures c.value.ensures.value c.leave-last.ensures.left new refl refl refl (one_ours c.args.self.now c.id-maker.result c.in-Ok.stamp c.args.prepared.event c.id-maker.ensures.value) (subst (PutAs (Becomes c.value.result.now c.put-answer.new.self) c.stamp-seen.result c.id-maker.result c.args.prepared.event c.args.prepared.entry) c.in-Ok.is c.put-answer.ensures) in
     record {
       leads = sent_leads f.0 f.2 f.3 v.step c.stamp-seen.result c.stamp-seen.ensures.value c.id-maker.result c.in-Ok.stamp v.came c.sent.ensures;
       sent = (c.in-Ok.stamp, c.sent.ensures);
@@ -56,7 +56,7 @@ returns-in-Err g c =
     let f = c.requires.found in
     let new : Desk = record c.args.self.now { caller = c.saw.new.self; queues = c.leave-last.new.passes } in
     let put = subst (PutAs (Becomes c.value.result.now c.put-answer.new.self) c.stamp-seen.result c.id-maker.result c.args.prepared.event c.args.prepared.entry) c.in-Err.is c.put-answer.ensures in
-    let v = visited (c.enter-visit.ensures.at c.args.self.now c.requires.desk refl) c.queue_of-queue.ensures c.value.ensures.value c.leave-last.ensures.left new refl refl (none_ours c.args.self.now) put.1 in
+    let v = visited (c.enter-visit.ensures.at c.args.self.now c.requires.desk refl) c.queue_of-queue.ensures c.value.ensures.value c.leave-last.ensures.left new refl refl refl (none_ours c.args.self.now) put.1 in
     let leads = looked_leads v.step v.came c.saw.ensures in
     record {
       leads = leads;

@@ -20,14 +20,14 @@ leave-last-requires-clause-at g c = may_leave (c.enter-visit.ensures.at c.args.s
 pub returns-in-Ok-None : goal.returns-in-Ok-None
 returns-in-Ok-None g c =
     let new : Desk = record c.args.self.now { caller = c.saw.new.self; queues = c.leave-last.new.passes } in
-    let v = visited (c.enter-visit.ensures.at c.args.self.now c.requires.desk refl) refl c.value.ensures.value c.leave-last.ensures.left new refl refl (none_ours c.args.self.now) (subst (SweptAs (Becomes c.value.result.now c.sweep-answer.new.self) c.stamp-seen.result c.id-maker.result) (c.in-Ok-None.is ∙ ap Ok c.in-Ok-None.field-0-is) c.sweep-answer.ensures) in
+    let v = visited (c.enter-visit.ensures.at c.args.self.now c.requires.desk refl) refl c.value.ensures.value c.leave-last.ensures.left new refl refl refl (none_ours c.args.self.now) (subst (SweptAs (Becomes c.value.result.now c.sweep-answer.new.self) c.stamp-seen.result c.id-maker.result) (c.in-Ok-None.is ∙ ap Ok c.in-Ok-None.field-0-is) c.sweep-answer.ensures) in
     let leads = looked_leads v.step v.came c.saw.ensures in
     record { leads = leads; swept = ((c.leave-last.result, c.saw.ensures), falls_swept v.step v.came leads.desk c.requires.fallen.0 (ap (λ (kept : Kept Filling). kept.queue.waiting) v.came.how.0 ∙ v.came.how.1)); fallen = falls_still v.step v.came leads c.requires.fallen.0; board = (refl, refl) }
 
 pub returns-in-Err : goal.returns-in-Err
 returns-in-Err g c =
     let new : Desk = record c.args.self.now { caller = c.saw-in-Err.new.self; queues = c.leave-last.new.passes } in
-    let v = visited (c.enter-visit.ensures.at c.args.self.now c.requires.desk refl) refl c.value.ensures.value c.leave-last.ensures.left new refl refl (none_ours c.args.self.now) (subst (SweptAs (Becomes c.value.result.now c.sweep-answer.new.self) c.stamp-seen.result c.id-maker.result) c.in-Err.is c.sweep-answer.ensures) in
+    let v = visited (c.enter-visit.ensures.at c.args.self.now c.requires.desk refl) refl c.value.ensures.value c.leave-last.ensures.left new refl refl refl (none_ours c.args.self.now) (subst (SweptAs (Becomes c.value.result.now c.sweep-answer.new.self) c.stamp-seen.result c.id-maker.result) c.in-Err.is c.sweep-answer.ensures) in
     let leads = looked_leads v.step v.came c.saw-in-Err.ensures in
     record {
       leads = leads;
@@ -39,6 +39,6 @@ returns-in-Err g c =
 pub returns-in-Ok-Some : goal.returns-in-Ok-Some
 returns-in-Ok-Some g c =
     let new : Desk = record c.args.self.now { caller = c.noted_for_domain.new.self; queues = c.leave-last.new.passes } in
-    let v = visited (c.enter-visit.ensures.at c.args.self.now c.requires.desk refl) refl c.value.ensures.value c.leave-last.ensures.left new refl refl (one_ours c.args.self.now c.id-maker.result c.in-Ok-Some.out.noted.stamp c.in-Ok-Some.out.noted.event.value c.id-maker.ensures.value) (subst (SweptAs (Becomes c.value.result.now c.sweep-answer.new.self) c.stamp-seen.result c.id-maker.result) (c.in-Ok-Some.is ∙ ap Ok c.in-Ok-Some.field-0-is) c.sweep-answer.ensures) in
+    let v = visited (c.enter-visit.ensures.at c.args.self.now c.requires.desk refl) refl c.value.ensures.value c.leave-last.ensures.left new refl refl refl (one_ours c.args.self.now c.id-maker.result c.in-Ok-Some.out.noted.stamp c.in-Ok-Some.out.noted.event.value c.id-maker.ensures.value) (subst (SweptAs (Becomes c.value.result.now c.sweep-answer.new.self) c.stamp-seen.result c.id-maker.result) (c.in-Ok-Some.is ∙ ap Ok c.in-Ok-Some.field-0-is) c.sweep-answer.ensures) in
     let swept = swept_goes v.step c.stamp-seen.result c.id-maker.result c.stamp-seen.ensures.value c.in-Ok-Some.out v.came c.noted_for_domain.ensures.noted c.requires.fallen.0.last c.swept.result c.swept.ensures in
     record { leads = swept.0; swept = (swept.1, swept.2, swept.3, record { request = c.in-Ok-Some.out.entry.request; its = ap (λ (x : Closing). x.request) c.swept.ensures; stamp = c.in-Ok-Some.out.noted.stamp; noted = swept.4; answer = ap (λ (x : Closing). x.answer) c.swept.ensures }); fallen = falls_still v.step v.came swept.0 c.requires.fallen.0; board = (refl, refl) }

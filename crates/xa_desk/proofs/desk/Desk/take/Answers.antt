@@ -31,21 +31,21 @@ leave-last-requires-clause-at g c = may_leave (c.enter-visit.ensures.at c.args.s
 pub returns-in-Ok-Empty : goal.returns-in-Ok-Empty
 returns-in-Ok-Empty g c =
     let new : Desk = record c.args.self.now { caller = c.saw.new.self; queues = c.leave-last.new.passes } in
-    let v = visited (c.enter-visit.ensures.at c.args.self.now c.requires.desk refl) refl c.value.ensures.value c.leave-last.ensures.left new refl refl (none_ours c.args.self.now) (subst (TookAs (Becomes c.value.result.now c.take-answer.new.self) c.stamp-seen.result c.id-maker.result c.server.result c.life.result) (c.in-Ok-Empty.is ∙ ap Ok c.in-Ok-Empty.field-0-is) c.take-answer.ensures) in
+    let v = visited (c.enter-visit.ensures.at c.args.self.now c.requires.desk refl) refl c.value.ensures.value c.leave-last.ensures.left new refl refl refl (none_ours c.args.self.now) (subst (TookAs (Becomes c.value.result.now c.take-answer.new.self) c.stamp-seen.result c.id-maker.result c.server.result c.life.result) (c.in-Ok-Empty.is ∙ ap Ok c.in-Ok-Empty.field-0-is) c.take-answer.ensures) in
     let nothing = looks_empty v.step c.requires.serving v.came c.saw.ensures (ap (λ (kept : Kept Filling). kept.queue.waiting) v.came.how.0 ∙ v.came.how.1.0) (ap (λ (kept : Kept Filling). kept.queue.closed) v.came.how.0 ∙ v.came.how.1.1) in
     record { leads = looked_leads v.step v.came c.saw.ensures; serving = looks_serve v.step c.requires.serving v.came c.saw.ensures; taken = (refl, (c.leave-last.result, c.saw.ensures), nothing); board = (refl, refl) }
 
 pub returns-in-Ok-Closed : goal.returns-in-Ok-Closed
 returns-in-Ok-Closed g c =
     let new : Desk = record c.args.self.now { caller = c.saw-in-Ok-Closed.new.self; queues = c.leave-last.new.passes } in
-    let v = visited (c.enter-visit.ensures.at c.args.self.now c.requires.desk refl) refl c.value.ensures.value c.leave-last.ensures.left new refl refl (none_ours c.args.self.now) (subst (TookAs (Becomes c.value.result.now c.take-answer.new.self) c.stamp-seen.result c.id-maker.result c.server.result c.life.result) (c.in-Ok-Closed.is ∙ ap Ok c.in-Ok-Closed.field-0-is) c.take-answer.ensures) in
+    let v = visited (c.enter-visit.ensures.at c.args.self.now c.requires.desk refl) refl c.value.ensures.value c.leave-last.ensures.left new refl refl refl (none_ours c.args.self.now) (subst (TookAs (Becomes c.value.result.now c.take-answer.new.self) c.stamp-seen.result c.id-maker.result c.server.result c.life.result) (c.in-Ok-Closed.is ∙ ap Ok c.in-Ok-Closed.field-0-is) c.take-answer.ensures) in
     let shut = looks_shut v.step c.requires.serving v.came c.saw-in-Ok-Closed.ensures (ap (λ (kept : Kept Filling). kept.queue.waiting) v.came.how.0 ∙ v.came.how.1.0) (ap (λ (kept : Kept Filling). kept.queue.closed) v.came.how.0 ∙ v.came.how.1.1) in
     record { leads = looked_leads v.step v.came c.saw-in-Ok-Closed.ensures; serving = looks_serve v.step c.requires.serving v.came c.saw-in-Ok-Closed.ensures; taken = (refl, (c.leave-last.result, c.saw-in-Ok-Closed.ensures), shut); board = (refl, refl) }
 
 pub returns-in-Err : goal.returns-in-Err
 returns-in-Err g c =
     let new : Desk = record c.args.self.now { caller = c.saw-in-Err.new.self; queues = c.leave-last.new.passes } in
-    let v = visited (c.enter-visit.ensures.at c.args.self.now c.requires.desk refl) refl c.value.ensures.value c.leave-last.ensures.left new refl refl (none_ours c.args.self.now) (subst (TookAs (Becomes c.value.result.now c.take-answer.new.self) c.stamp-seen.result c.id-maker.result c.server.result c.life.result) c.in-Err.is c.take-answer.ensures) in
+    let v = visited (c.enter-visit.ensures.at c.args.self.now c.requires.desk refl) refl c.value.ensures.value c.leave-last.ensures.left new refl refl refl (none_ours c.args.self.now) (subst (TookAs (Becomes c.value.result.now c.take-answer.new.self) c.stamp-seen.result c.id-maker.result c.server.result c.life.result) c.in-Err.is c.take-answer.ensures) in
     record {
       leads = looked_leads v.step v.came c.saw-in-Err.ensures;
       serving = looks_serve v.step c.requires.serving v.came c.saw-in-Err.ensures;
@@ -58,7 +58,7 @@ returns-in-Ok-Request g c =
     let old = c.args.self.now.caller in
     let out = c.in-Ok-Request.out in
     let new : Desk = record c.args.self.now { caller = c.begin.new.caller; queues = c.leave-last.new.passes } in
-    let v = visited (c.enter-visit.ensures.at c.args.self.now c.requires.desk refl) refl c.value.ensures.value c.leave-last.ensures.left new refl refl (one_ours c.args.self.now c.id-maker.result out.noted.stamp out.noted.event.value c.id-maker.ensures.value) (subst (TookAs (Becomes c.value.result.now c.take-answer.new.self) c.stamp-seen.result c.id-maker.result c.server.result c.life.result) (c.in-Ok-Request.is ∙ ap Ok c.in-Ok-Request.field-0-is) c.take-answer.ensures) in
+    let v = visited (c.enter-visit.ensures.at c.args.self.now c.requires.desk refl) refl c.value.ensures.value c.leave-last.ensures.left new refl refl refl (one_ours c.args.self.now c.id-maker.result out.noted.stamp out.noted.event.value c.id-maker.ensures.value) (subst (TookAs (Becomes c.value.result.now c.take-answer.new.self) c.stamp-seen.result c.id-maker.result c.server.result c.life.result) (c.in-Ok-Request.is ∙ ap Ok c.in-Ok-Request.field-0-is) c.take-answer.ensures) in
     let caller = c.begin.ensures.rest ∙ ap (λ (w : WorkState). record old { work = w }) c.begin.ensures.noted in
     let goes = took_goes v.step c.requires.serving c.stamp-seen.result c.id-maker.result c.server.result c.life.result out c.stamp-seen.ensures.value c.id-maker.ensures.value c.server.ensures v.came caller c.life.ensures c.begin.new.self c.begin.ensures.stands c.begin.ensures.slot in
     record { leads = goes.0; serving = goes.1; taken = goes.2; board = (refl, refl) }

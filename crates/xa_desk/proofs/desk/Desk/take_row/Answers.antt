@@ -34,7 +34,7 @@ changed-requires-clause-recent g c =
     let new : Desk = record c.args.self.now { board = c.leave_board-last.new.pass } in
     let at = c.enter_board-board.ensures.at c.args.self.now c.requires.desk refl in
     let did = subst (WithdrewAs (Turns c.value.result.now c.withdraw-answer.new.self) c.stamp-seen.result c.id-maker.result c.id-maker.result c.args.op c.args.service.now c.args.queue) c.in-Ok.is c.withdraw-answer.ensures in
-    let v = board_visited at c.value.ensures.value c.leave_board-last.ensures.left new refl refl (one_there c.args.self.now c.id-maker.result _ c.id-maker.ensures.value refl) did in
+    let v = board_visited at c.value.ensures.value c.leave_board-last.ensures.left new refl refl refl (one_there c.args.self.now c.id-maker.result _ c.id-maker.ensures.value refl) did in
     recent v.step c.stamp-seen.result c.stamp-seen.ensures.value c.id-maker.result c.in-Ok.changed _ _ _ v.came
 
 pub returns-in-Ok-clause-moves : goal.returns-in-Ok-clause-moves
@@ -44,7 +44,7 @@ returns-in-Ok-clause-moves g c =
     let new : Desk = record desk { caller = c.changed.new.self; board = c.leave_board-last.new.pass } in
     let at = c.enter_board-board.ensures.at desk c.requires.desk refl in
     let did = subst (WithdrewAs (Turns c.value.result.now c.withdraw-answer.new.self) c.stamp-seen.result c.id-maker.result c.id-maker.result c.args.op c.args.service.now c.args.queue) c.in-Ok.is c.withdraw-answer.ensures in
-    let v = board_visited at c.value.ensures.value c.leave_board-last.ensures.left new refl refl (one_there desk c.id-maker.result _ c.id-maker.ensures.value refl) did in
+    let v = board_visited at c.value.ensures.value c.leave_board-last.ensures.left new refl refl refl (one_there desk c.id-maker.result _ c.id-maker.ensures.value refl) did in
     let above = ltb-true desk.caller.work.clients desk.caller.work.id.0 (and_parts (nat_lt desk.caller.work.clients desk.caller.work.id.0) _ c.requires.active).0 in
     let number = ap (λ (i : CallerId). i.0) c.id-maker.ensures.value in
     record {
@@ -70,7 +70,7 @@ returns-in-Ok-clause-fits g c named =
     let new : Desk = record desk { caller = c.changed.new.self; board = c.leave_board-last.new.pass } in
     let at = c.enter_board-board.ensures.at desk c.requires.desk refl in
     let did = subst (WithdrewAs (Turns c.value.result.now c.withdraw-answer.new.self) c.stamp-seen.result c.id-maker.result c.id-maker.result c.args.op c.args.service.now c.args.queue) c.in-Ok.is c.withdraw-answer.ensures in
-    let v = board_visited at c.value.ensures.value c.leave_board-last.ensures.left new refl refl (one_there desk c.id-maker.result _ c.id-maker.ensures.value refl) did in
+    let v = board_visited at c.value.ensures.value c.leave_board-last.ensures.left new refl refl refl (one_there desk c.id-maker.result _ c.id-maker.ensures.value refl) did in
     let above = ltb-true desk.caller.work.clients desk.caller.work.id.0 (and_parts (nat_lt desk.caller.work.clients desk.caller.work.id.0) _ c.requires.active).0 in
     let number = ap (λ (i : CallerId). i.0) c.id-maker.ensures.value in
     let event = did.how.1.event_is ∙ ap (λ (i : CallerId). Withdraw (record { by = i; op = c.args.op; service = c.args.service.now; queue = c.args.queue; version = c.in-Ok.changed.version })) c.id-maker.ensures.value in
@@ -87,7 +87,7 @@ returns-in-Err-clause-moves g c =
     let new : Desk = record desk { caller = c.saw.new.self; board = c.leave_board-last.new.pass } in
     let at = c.enter_board-board.ensures.at desk c.requires.desk refl in
     let did = subst (WithdrewAs (Turns c.value.result.now c.withdraw-answer.new.self) c.stamp-seen.result c.id-maker.result c.id-maker.result c.args.op c.args.service.now c.args.queue) c.in-Err.is c.withdraw-answer.ensures in
-    let v = board_visited at c.value.ensures.value c.leave_board-last.ensures.left new refl refl (none_there desk) did in
+    let v = board_visited at c.value.ensures.value c.leave_board-last.ensures.left new refl refl refl (none_there desk) did in
     let caller = c.saw.ensures ∙ ap (λ (s : Stamp). record desk.caller { work = seeing s desk.caller.work }) c.seen_at.ensures in
     record {
       leads = barred_leads v.step c.stamp-seen.result c.stamp-seen.ensures.value c.stamp-seen.ensures.bound (λ (old : Held). withdraw_refused (raised c.stamp-seen.result old) c.args.service.now c.args.queue.0 old.board) c.in-Err.refused last v.came (withdraw_ends c.args.service.now c.args.queue.0 c.stamp-seen.result c.stamp-seen.ensures.bound c.in-Err.refused) caller v.reaches;
@@ -104,7 +104,7 @@ returns-in-Err-clause-barred g c =
     let new : Desk = record desk { caller = c.saw.new.self; board = c.leave_board-last.new.pass } in
     let at = c.enter_board-board.ensures.at desk c.requires.desk refl in
     let did = subst (WithdrewAs (Turns c.value.result.now c.withdraw-answer.new.self) c.stamp-seen.result c.id-maker.result c.id-maker.result c.args.op c.args.service.now c.args.queue) c.in-Err.is c.withdraw-answer.ensures in
-    let v = board_visited at c.value.ensures.value c.leave_board-last.ensures.left new refl refl (none_there desk) did in
+    let v = board_visited at c.value.ensures.value c.leave_board-last.ensures.left new refl refl refl (none_there desk) did in
     let caller = c.saw.ensures ∙ ap (λ (s : Stamp). record desk.caller { work = seeing s desk.caller.work }) c.seen_at.ensures in
     let same = rows_stood v.step c.stamp-seen.result c.stamp-seen.ensures.value c.stamp-seen.ensures.bound (λ (old : Held). withdraw_refused (raised c.stamp-seen.result old) c.args.service.now c.args.queue.0 old.board) c.in-Err.refused last v.came (withdraw_ends c.args.service.now c.args.queue.0 c.stamp-seen.result c.stamp-seen.ensures.bound c.in-Err.refused) caller in
     elim v.came.how.1 [

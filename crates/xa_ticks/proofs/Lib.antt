@@ -1,0 +1,3 @@
+pub mod Ticking
+pub mod Passing
+pub mod Showing
