@@ -10,7 +10,7 @@ _xatmi() {
     local word=${COMP_WORDS[COMP_CWORD]} before=${COMP_WORDS[COMP_CWORD - 1]} place=0 at
     COMPREPLY=()
     if [ "$COMP_CWORD" -eq 1 ]; then
-        COMPREPLY=($(compgen -W 'run play server check watch trial told new rule build test which help --version' -- "$word"))
+        COMPREPLY=($(compgen -W 'run record audit play server check watch trial told new rule build test which help --version' -- "$word"))
         return
     fi
     # Which word of the command it is, options and what follows them left out.
@@ -38,6 +38,8 @@ _xatmi() {
     esac
     case ${COMP_WORDS[1]}:$place in
         run:0) _xatmi_files '*.toml' ;;
+        record:0) _xatmi_files '*.toml' ;;
+        audit:0) _xatmi_files '*' ;;
         play:0) COMPREPLY=($(compgen -W 'ECHO LEN FAIL EXIT DIE TRANSFER ACCT PASS RELAY QUIT ADV' -- "$word")) ;;
         check:0) _xatmi_files '*.toml' ;;
         check:1) _xatmi_files '*.script' ;;

@@ -135,13 +135,13 @@ def script():
 def say_more(status, launcher, words):
     """What to do where the program refused the configuration or the script."""
     command, word = words[1:3]
-    of = shlex.quote(word) if command == "run" else f"--play {shlex.quote(word)}"
+    of = shlex.quote(word) if command in ("run", "record") else f"--play {shlex.quote(word)}"
     if status == 2:
         say(f"{launcher} check {of} tells where, and what is taken there")
     elif status == 3:
         say(f"{launcher} check {of} {script()} tells where, and what is taken there")
     elif status == 4:
-        of_configuration = reason(word) if command == "run" else ""
+        of_configuration = reason(word) if command in ("run", "record") else ""
         of_input = reason_of_input()
         if of_configuration:
             say(f"{word}: {of_configuration}")

@@ -1,5 +1,5 @@
 -- What a list of events comes to.
-use Rattle.std.specs.Prelude.{ℕ, ◌≡◌, ◌<◌, List, length, take, slice_get, Some}
+use Rattle.std.specs.Prelude.{ℕ, ◌≡◌, ◌<◌, List, ◌++◌, length, take, slice_get, Some, codes, decimal}
 use Rattle.xa_types.specs.declared.setup.Setup.{Setup}
 use Rattle.xa_events.specs.declared.event.Event.{Event}
 use Rattle.xa_events.specs.State.{State, opening}
@@ -25,3 +25,9 @@ abbrev pub IsVerdict : Setup → ℕ → List Event → Verdict → Type 0
 IsVerdict setup clients events (verdicts.Run many) = (many ≡ length events) × ((new : State) × Leads setup clients events new × IsFinal new)
 IsVerdict setup clients events (verdicts.At place) = IsRefused setup clients events place
 IsVerdict setup clients events (verdicts.Unfinished many) = (many ≡ length events) × ((new : State) × Leads setup clients events new × (IsFinal new → ⊥))
+
+-- the line that says it
+abbrev pub verdict_line : Verdict → List ℕ
+verdict_line (verdicts.Run many) = codes "run of " ++ decimal many ++ codes " events\n"
+verdict_line (verdicts.At place) = codes "refused at " ++ decimal place ++ codes "\n"
+verdict_line (verdicts.Unfinished many) = codes "unfinished after " ++ decimal many ++ codes " events\n"

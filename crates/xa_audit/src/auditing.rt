@@ -3,7 +3,7 @@ ghost use Rattle.std.specs.Prelude.{IfOk, IfErr};
 ghost use Rattle.xa_audit.specs.Audit.{IsAudited, Refuses, LawfulWhereRun, IsOfWritten};
 
 use crate::judging::{Verdict, judge};
-use crate::laws::runs_are_lawful;
+use crate::laws::records_are_lawful;
 use crate::reading::{RecordRefused, config_of, lines_of};
 use std::alloc::Global;
 use xa_config::{ConfigRefused, read};
@@ -77,6 +77,6 @@ pub fn audit(alloc: Global, octets: &[u8]) -> Result<Verdict, AuditRefused>
     ensures lawful { IfOk result (LawfulWhereRun octets.now) }
     ensures written { IsOfWritten octets.now result }
 {
-    runs_are_lawful();
+    records_are_lawful();
     answer_of(alloc, octets)
 }

@@ -30,5 +30,6 @@ mod talking;
 mod telling;
 mod words;
 
+pub use laws::runs_are_lawful;
 pub use machine::{Machine, StepRefused};
 pub use replaying::{ReplayRefused, replay};

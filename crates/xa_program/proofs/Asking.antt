@@ -2,7 +2,7 @@
 use Rattle.std.proofs.Common.{ℕ, List, Option, Some, inr, inl}
 use Rattle.xa_domain.specs.xa_types.declared.setup.Setup.{Setup}
 use Rattle.xa_program.specs.declared.words.Command.{Command}
-use Rattle.xa_program.specs.declared.words.Command.TheVariants.{Server}
+use Rattle.xa_program.specs.declared.words.Command.TheVariants.{Audit, Server}
 use Rattle.xa_program.specs.declared.status.Status.{Status}
 use Rattle.xa_program.specs.declared.status.Status.TheVariants.{Done, WriteFault, NoMemory, Worn}
 use Rattle.xa_program.specs.Configuration.{IsSetup}
@@ -13,6 +13,7 @@ use Rattle.xa_program.specs.Yard.{AsksYard}
 pub asks_yard : (file : List ℕ → Option (Option (List ℕ))) (command : Command) (setup : Setup) (status : Status) (before after : Option (List Setup)) → IsSetup file command setup → AsksBy setup status before after
     → AsksYard file (Some command) status before after
 asks_yard file (Server name) setup status before after is asked = absurd is
+asks_yard file (Audit name) setup status before after is asked = absurd is
 asks_yard file command setup Done before after is asked = (setup, is, asked)
 asks_yard file command setup WriteFault before after is asked = (setup, is, asked)
 asks_yard file command setup (Worn stamp) before after is asked = (setup, is, asked)

@@ -13,13 +13,15 @@ use Rattle.xa_domain.specs.xa_worker.declared.work.Halt.TheVariants as halts
 use Rattle.xa_domain.specs.xa_history.Served.{IsServedSoFar, IsWorn}
 use Rattle.xa_domain.specs.Serving.{HasHomes, ServeEnds}
 use Rattle.xa_program.specs.declared.words.Command.{Command}
-use Rattle.xa_program.specs.declared.words.Command.TheVariants.{Run}
+use Rattle.xa_program.specs.declared.telling.Form.{Form}
+use Rattle.xa_program.specs.declared.telling.Form.TheVariants as forms
 use Rattle.xa_program.specs.declared.status.Status.{Status}
 use Rattle.xa_program.specs.declared.status.Status.TheVariants.{Done, ConfigRead, ScriptRead, TooLong, BadLine, WriteFault, NoMemory, Worn}
 use Rattle.xa_program.specs.declared.status.Input.TheVariants as inputs
-use Rattle.xa_program.specs.Configuration.{ShelfTells, IsSetup, CountsShelf, AsksFiles, AsksShelf, KeepsShelf}
-use Rattle.xa_program.specs.Headline.{Streams, Handed, ReadsWell, IsTheScript, IsServedRun, IsHaltedRun, ScriptEnds, RunEnds, most_clients}
-use Rattle.xa_program.specs.Progress.{IsUntold, TellingEnds}
+use Rattle.xa_program.specs.Configuration.{ShelfTells, IsSetup, CountsFile, AsksFiles, AsksShelf, KeepsShelf, file_named}
+use Rattle.xa_program.specs.Headline.{Streams, Handed, ReadsWell, IsTheScript, IsServedRun, IsHaltedRun, Writes, IsDue, ScriptEnds, RunEnds, most_clients}
+use Rattle.xa_program.specs.Progress.{IsWritten, Says, IsUntold, TellingEnds}
+use Rattle.xa_program.proofs.Recorded.{recorded}
 use Rattle.xa_program.proofs.SoFar.{whole_so_far}
 
 -- ---- the parts
@@ -53,50 +55,61 @@ module _ {S : Type 0} (shows : S → StarterShows) (setup : Setup) (clients : Li
         let comes = ends.comes handed.history merged in
         record { script = script; reads = reads; merged = merged; recorded = let all = ends.homed in all.recorded; dense = ends.dense; whole = comes.0; none_cut = comes.1 }
 
+    -- what was written is what is due
+    due : (form : Form) (octets : List ℕ) → Says setup form → IsServedRun shows streams setup most clients handed → IsWritten form clients handed.history octets → IsDue form clients handed.history octets
+    due forms.Transcript octets says run is = is
+    due (forms.Record config) octets says run is = let its = run.whole in recorded setup clients config octets handed.history says its.machine is.0 is.1
+
     -- how serving a script and telling it end
-    pub served_ends : (halt : Option Halt) (status : Status) → Serves halt
-        → TellingEnds halt handed.homes clients streams.took_before streams.took_after streams.writes_before streams.writes_after status handed.history
-        → ScriptEnds shows streams setup most status handed
-    served_ends None Done ends told = (clients, whole ends told.0, told.1, told.2)
-    served_ends None WriteFault ends told = (clients, whole ends told.0, told.1, told.2)
-    served_ends None NoMemory ends told =
+    pub served_ends : (form : Form) → Says setup form → (halt : Option Halt) (status : Status) → Serves halt
+        → TellingEnds halt handed.homes form clients streams.took_before streams.took_after streams.writes_before streams.writes_after status handed.history
+        → ScriptEnds shows streams setup most form status handed
+    served_ends form says None Done ends told =
+        let run = whole ends told.0 in
+        let lines = told.1 in
+        (clients, run, (lines.0, due form lines.0 says run lines.1, lines.2), told.2)
+    served_ends form says None WriteFault ends told =
+        let run = whole ends told.0 in
+        let lines = told.1 in
+        (clients, run, (lines.0, due form lines.0 says run lines.1, lines.2), told.2)
+    served_ends form says None NoMemory ends told =
         inr (clients, halted halts.NoMemory (inl ends.homed) ends.dense told (λ events merged. whole_so_far shows setup clients events handed.lives handed.cut handed.starters (ends.comes events merged)))
-    served_ends (Some halts.NoMemory) NoMemory ends told = inr (clients, halted halts.NoMemory ends.homed ends.dense told ends.comes)
-    served_ends (Some (halts.Worn stamp)) (Worn last) ends told =
+    served_ends form says (Some halts.NoMemory) NoMemory ends told = inr (clients, halted halts.NoMemory ends.homed ends.dense told ends.comes)
+    served_ends form says (Some (halts.Worn stamp)) (Worn last) ends told =
         subst (λ s. (clients : List Client) × IsHaltedRun shows streams (halts.Worn s) setup most clients handed × IsWorn (halts.Worn s) handed.homes) (sym told.0)
         (clients, halted (halts.Worn stamp) ends.homed ends.dense told.1 ends.comes, ends.worn)
-    served_ends halt status ends told = absurd told
+    served_ends form says halt status ends told = absurd told
 
 -- how serving a script ends, at that status
-pub ends_as : {S : Type 0} (shows : S → StarterShows) (streams : Streams) (setup : Setup) (most : ℕ) (status other : Status) (handed : Handed S)
-    → ScriptEnds shows streams setup most status handed → status ≡ other → ScriptEnds shows streams setup most other handed
-ends_as shows streams setup most status other handed ends is = subst (λ s. ScriptEnds shows streams setup most s handed) is ends
+pub ends_as : {S : Type 0} (shows : S → StarterShows) (streams : Streams) (setup : Setup) (most : ℕ) (form : Form) (status other : Status) (handed : Handed S)
+    → ScriptEnds shows streams setup most form status handed → status ≡ other → ScriptEnds shows streams setup most form other handed
+ends_as shows streams setup most form status other handed ends is = subst (λ s. ScriptEnds shows streams setup most form s handed) is ends
 
 -- ---- the run
 
 module _ {S : Type 0} (shows : S → StarterShows) (shelf : ShelfTells) (streams : Streams) (handed : Handed S) where
   -- a run with a setup
-  run_ends : (command : Command) (setup : Setup) (status : Status) → IsSetup shelf.file command setup
-      → ScriptEnds shows streams setup (most_clients command) status handed → RunEnds shows shelf streams command status handed
-  run_ends command setup Done is ends = (setup, is, ends)
-  run_ends command setup WriteFault is ends = (setup, is, ends)
-  run_ends command setup ScriptRead is ends = (setup, is, ends)
-  run_ends command setup (TooLong inputs.Script) is ends = (setup, is, ends)
-  run_ends command setup (BadLine line cause) is ends = (setup, is, ends)
-  run_ends command setup (Worn stamp) is ends = (setup, is, ends)
-  run_ends command setup NoMemory is ends = inr (setup, is, ends)
-  run_ends command setup status is ends = absurd ends
+  run_ends : (command : Command) (setup : Setup) (form : Form) (status : Status) → IsSetup shelf.file command setup → Writes shelf.file command setup form
+      → ScriptEnds shows streams setup (most_clients command) form status handed → RunEnds shows shelf streams command status handed
+  run_ends command setup form Done is writes ends = (setup, form, is, writes, ends)
+  run_ends command setup form WriteFault is writes ends = (setup, form, is, writes, ends)
+  run_ends command setup form ScriptRead is writes ends = (setup, form, is, writes, ends)
+  run_ends command setup form (TooLong inputs.Script) is writes ends = (setup, form, is, writes, ends)
+  run_ends command setup form (BadLine line cause) is writes ends = (setup, form, is, writes, ends)
+  run_ends command setup form (Worn stamp) is writes ends = (setup, form, is, writes, ends)
+  run_ends command setup form NoMemory is writes ends = inr (setup, form, is, writes, ends)
+  run_ends command setup form status is writes ends = absurd ends
 
-  pub run_so : (command : Command) (setup : Setup) (most : ℕ) (status : Status) → IsSetup shelf.file command setup → most ≡ most_clients command
-      → ScriptEnds shows streams setup most status handed → RunEnds shows shelf streams command status handed
-  run_so command setup most status is few ends = run_ends command setup status is (subst (λ (n : ℕ). ScriptEnds shows streams setup n status handed) few ends)
+  pub run_so : (command : Command) (setup : Setup) (form : Form) (most : ℕ) (status : Status) → IsSetup shelf.file command setup → Writes shelf.file command setup form → most ≡ most_clients command
+      → ScriptEnds shows streams setup most form status handed → RunEnds shows shelf streams command status handed
+  run_so command setup form most status is writes few ends = run_ends command setup form status is writes (subst (λ (n : ℕ). ScriptEnds shows streams setup n form status handed) few ends)
 
 -- ---- the shelf
 
 -- no read of a file failed
-counts_kept : (command : Command) (status : Status) (before after : ℕ) → (status ≡ ConfigRead → ⊥) → after ≡ before → CountsShelf (Some command) status before after
-counts_kept (Run name) ConfigRead before after other same = absurd (other refl)
-counts_kept command status before after other same = same
+counts_kept : (named : Option (List ℕ)) (status : Status) (before after : ℕ) → (status ≡ ConfigRead → ⊥) → after ≡ before → CountsFile named status before after
+counts_kept (Some name) ConfigRead before after other same = absurd (other refl)
+counts_kept named status before after other same = same
 
 -- the command asked for its files
 asks_files : (command : Command) (status : Status) (before after : Option (List (List ℕ))) → AsksFiles command before after → AsksShelf (Some command) status before after
@@ -105,6 +118,6 @@ asks_files command status before after asks = asks
 
 pub shelf_kept : (command : Command) (status : Status) (before after : ShelfShows) → (status ≡ ConfigRead → ⊥) → after.faults ≡ before.faults → AsksFiles command before.asked after.asked → KeepsShelf (Some command) status before after
 shelf_kept command status before after other same asks = record {
-  counts = counts_kept command status before.faults after.faults other same;
+  counts = counts_kept (file_named command) status before.faults after.faults other same;
   asks = asks_files command status before.asked after.asked asks;
 }

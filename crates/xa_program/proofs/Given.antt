@@ -1,15 +1,13 @@
 -- The words, as they are read one by one.
 use Rattle.std.proofs.Common.{◌≡◌, ◌∙◌, ℕ, ◌+◌, ◌-◌, ◌<◌, ◌≤◌, add-one, arith, List, [], ◌∷◌, ◌++◌, take, drop, map, length, length-drop, get_or, Option, Some, None, inl, inr, ap, sym}
-use Rattle.std.specs.Prelude.{IfSome, Result, Ok, Err, OnErr, true, codes, refl}
-use Rattle.std.specs.Str.{bytes_eq}
+use Rattle.std.specs.Prelude.{IfSome}
 use Rattle.std.proofs.Math.Seq.{take-suc}
 use Rattle.std.proofs.lemmas.List.{take_all, map-append}
 use Rattle.std.proofs.lemmas.Option.{none-some, slice_get_cases, slice_get_within, get_or_from_slice_get}
 use Rattle.xa_domain.specs.xa_link.Arguments.{word_at}
 use Rattle.xa_domain.specs.xa_script.declared.script.Client.{Client}
 use Rattle.xa_program.specs.Headline.{names_of}
-use Rattle.xa_program.specs.Words.{file_in, command_of, command_in}
-use Rattle.xa_program.specs.declared.words.Command.TheVariants.{Run}
+use Rattle.xa_program.specs.Words.{command_of, command_in}
 
 -- the first words, and one more
 pub taken_more : (told : Option (List (List ℕ))) (all : List (List ℕ)) (place : ℕ) (word : List ℕ) → IfSome told (λ ws. all ≡ take place ws) → IfSome told (λ ws. Some word ≡ word_at ws place)
@@ -51,14 +49,6 @@ two_words text (x ∷ []) first second command argument least below is_first is_
 two_words text (x ∷ y ∷ []) first second command argument least below is_first is_second its other =
     ap (λ (word : List ℕ). command_of word argument) (its ∙ ap text is_first) ∙ ap (λ (word : List ℕ). command_of (text x) word) (other ∙ ap text is_second)
 two_words text (x ∷ y ∷ z ∷ rest) first second command argument least below is_first is_second its other = absurd (omega arith)
-
--- where the name of a file couldn't be kept, the words are those of `run`
-pub starved_run : {A E : Type 0} (result : Result A E) (command argument octets : List ℕ) → true ≡ bytes_eq command (codes "run") → octets ≡ argument → OnErr result (file_in octets ≡ Some octets)
-    → OnErr result ((file : List ℕ) × (command_of command argument ≡ Some (Run file)))
-starved_run (Ok x) command argument octets is same h = tt
-starved_run (Err e) command argument octets is same h =
-    let file : file_in argument ≡ Some argument = rw same at h in
-    (argument, rw (sym is, file) refl)
 
 -- behind the first as many stand as there are but one
 pub whole_behind : (all : List (List ℕ)) → take (length all - 1) (drop 1 all) ≡ drop 1 all

@@ -4,5 +4,7 @@ pub mod Complete
 pub mod Ending
 pub mod Failing
 pub mod Given
+pub mod Judging
+pub mod Recorded
 pub mod SoFar
 pub mod Pieces

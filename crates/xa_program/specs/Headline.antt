@@ -1,16 +1,24 @@
--- What a run of `run` or `play` comes to (this project's own).
-use Rattle.std.specs.Prelude.{◌≡◌, ◌⊎◌, ◌≤◌, ℕ, List, [], length, reverse, map, Option, Some, ⊤}
+-- What a run of `run`, `record` or `play` comes to (this project's own).
+use Rattle.std.specs.Prelude.{◌≡◌, ◌⊎◌, ◌≤◌, ℕ, List, [], length, reverse, map, Option, Some, ⊤, Result, Ok, Err}
 use Rattle.std.specs.declared.vec.Vec.{Vec}
 use Rattle.std.specs.declared.alloc.Global.{Global}
 use Rattle.xa_domain.specs.xa_types.declared.setup.Setup.{Setup}
 use Rattle.xa_domain.specs.xa_link.Links.{SourceShows, SinkShows}
 use Rattle.xa_domain.specs.xa_link.Told.{Rose, Grew, GrewByPart}
+use Rattle.xa_domain.specs.xa_link.Reads.{Holds}
 use Rattle.xa_domain.specs.xa_events.declared.event.Event.{Event}
 use Rattle.xa_domain.specs.xa_stamp.Home.{Notes}
 use Rattle.xa_domain.specs.xa_stamp.Merge.{IsMerged, IsDense}
 use Rattle.xa_domain.specs.xa_script.declared.script.Client.{Client}
 use Rattle.xa_domain.specs.xa_script.Script.{IsScript, IsFirstFault}
+use Rattle.xa_config.specs.Document.{IsConfiguration}
 use Rattle.xa_text.specs.Transcript.{transcript}
+use Rattle.xa_audit.specs.Record.{IsRecord}
+use Rattle.xa_audit.specs.Audit.{IsAudited, Answers}
+use Rattle.xa_audit.specs.declared.judging.Verdict.{Verdict}
+use Rattle.xa_audit.specs.declared.judging.Verdict.TheVariants as verdicts
+use Rattle.xa_audit.specs.declared.auditing.AuditRefused.{AuditRefused}
+use Rattle.xa_audit.specs.declared.auditing.AuditRefused.TheVariants as refusals
 use Rattle.xa_domain.specs.xa_worker.declared.work.Halt.{Halt}
 use Rattle.xa_domain.specs.xa_worker.declared.work.Halt.TheVariants as halts
 use Rattle.xa_domain.specs.xa_pipe.Standing.{LifeState, Ending}
@@ -20,12 +28,14 @@ use Rattle.xa_domain.specs.Serving.{HasHomes, IsNoneCut}
 use Rattle.xa_domain.specs.xa_server_worker.Working.{cut_in}
 use Rattle.xa_program.specs.declared.outcome.Outcome.{Outcome}
 use Rattle.xa_program.specs.declared.words.Command.{Command}
-use Rattle.xa_program.specs.declared.words.Command.TheVariants.{Play, Server}
+use Rattle.xa_program.specs.declared.words.Command.TheVariants.{Record, Audit, Play, Server}
+use Rattle.xa_program.specs.declared.telling.Form.{Form}
+use Rattle.xa_program.specs.declared.telling.Form.TheVariants as forms
 use Rattle.xa_program.specs.declared.status.Status.{Status}
-use Rattle.xa_program.specs.declared.status.Status.TheVariants.{Done, Usage, ConfigRead, ConfigFault, ScriptRead, TooLong, BadLine, WriteFault, NoMemory, Worn}
+use Rattle.xa_program.specs.declared.status.Status.TheVariants.{Done, Usage, ConfigRead, ConfigFault, ScriptRead, TooLong, BadLine, WriteFault, NoMemory, Worn, BadRecord, NotARun}
 use Rattle.xa_program.specs.declared.status.Input.TheVariants as inputs
 use Rattle.xa_program.specs.Input.{InputTells, CameWhole, CameOver, input_by}
-use Rattle.xa_program.specs.Configuration.{ShelfTells, IsSetup, LacksSetup}
+use Rattle.xa_program.specs.Configuration.{ShelfTells, IsSetup, LacksSetup, longest_configuration}
 
 -- ---- what comes in and what goes out
 
@@ -81,6 +91,12 @@ WritesWell streams = streams.writes_after ≡ streams.writes_before
 pub record IsSilent (streams : Streams) : Type 0 where
   pub took : streams.took_after ≡ streams.took_before
   pub writes : WritesWell streams
+
+-- the input was left alone
+pub record IsUnread (streams : Streams) : Type 0 where
+  pub left : streams.input.left_after ≡ streams.input.left
+  pub gave : streams.input.gave_after ≡ streams.input.gave
+  pub reads : ReadsWell streams
 
 -- the input and the output were left alone
 pub record IsIdle (streams : Streams) : Type 0 where
@@ -143,38 +159,63 @@ pub record IsHaltedRun {S : Type 0} (shows : S → StarterShows) (streams : Stre
   pub dense : IsDense (record { 0 = 0 }) handed.homes
   pub so_far : (events : List Event) → IsMerged handed.homes events → IsServedSoFar shows halt setup (length clients) events handed.lives handed.cut handed.starters
 
+-- ---- what is written
+
+-- what the command writes of a run: a transcript, or the record with the configuration that the file holds, which isn't too long, and says that setup
+abbrev pub Writes : (List ℕ → Option (Option (List ℕ))) → Command → Setup → Form → Type 0
+Writes file (Record name) setup (forms.Record config) = Holds (file name) config × (length config ≤ longest_configuration) × IsConfiguration config setup
+Writes file (Record name) setup forms.Transcript = ⊥
+Writes file command setup forms.Transcript = ⊤
+Writes file command setup (forms.Record config) = ⊥
+
+-- the octets are the record of that configuration, these clients and that history; its events come to a run, and what is answered of it is that, or
+-- memory ran out
+pub record IsRunRecord (config : List ℕ) (names : List (List ℕ)) (history : List Event) (octets : List ℕ) : Type 0 where
+  pub spelled : IsRecord octets config names history
+  pub audited : IsAudited octets (verdicts.Run (length history))
+  pub answered : (answer : Result Verdict AuditRefused) → Answers octets answer → (answer ≡ Ok (verdicts.Run (length history))) ⊎ (answer ≡ Err refusals.NoMemory)
+
+-- what is due of a history of these clients: the lines of its transcript, or its record
+abbrev pub IsDue : Form → List Client → List Event → List ℕ → Type 0
+IsDue forms.Transcript clients history octets = octets ≡ transcript (names_of clients) (reverse history)
+IsDue (forms.Record config) clients history octets = IsRunRecord config (names_of clients) history octets
+
 -- ---- how a run ends
 
--- how serving the script ends, and what that shows, where that is the setup and so many clients may be
-abbrev pub ScriptEnds : {S : Type 0} → (S → StarterShows) → Streams → Setup → ℕ → Status → Handed S → Type 0
-ScriptEnds shows streams setup most Done handed =
-    (clients : List Client) × IsServedRun shows streams setup most clients handed × Grew streams.took_before streams.took_after (transcript (names_of clients) (reverse handed.history)) × WritesWell streams
-ScriptEnds shows streams setup most WriteFault handed =
+-- how serving the script ends, and what that shows, where that is the setup, so many clients may be, and a history is written in that form
+abbrev pub ScriptEnds : {S : Type 0} → (S → StarterShows) → Streams → Setup → ℕ → Form → Status → Handed S → Type 0
+ScriptEnds shows streams setup most form Done handed =
     (clients : List Client) × IsServedRun shows streams setup most clients handed
-    × GrewByPart streams.took_before streams.took_after (transcript (names_of clients) (reverse handed.history)) × Rose streams.writes_before streams.writes_after
-ScriptEnds shows streams setup most ScriptRead handed = Rose streams.reads_before streams.reads_after × IsSilent streams
-ScriptEnds shows streams setup most (TooLong inputs.Script) handed = CameOver streams.input longest_script × ReadsWell streams × IsSilent streams
-ScriptEnds shows streams setup most (BadLine line cause) handed = HasFirstFault setup most streams.input line cause × ReadsWell streams × IsSilent streams
-ScriptEnds shows streams setup most (Worn stamp) handed = (clients : List Client) × IsHaltedRun shows streams (halts.Worn stamp) setup most clients handed × IsWorn (halts.Worn stamp) handed.homes
-ScriptEnds shows streams setup most NoMemory handed =
+    × ((octets : List ℕ) × IsDue form clients handed.history octets × Grew streams.took_before streams.took_after octets) × WritesWell streams
+ScriptEnds shows streams setup most form WriteFault handed =
+    (clients : List Client) × IsServedRun shows streams setup most clients handed
+    × ((octets : List ℕ) × IsDue form clients handed.history octets × GrewByPart streams.took_before streams.took_after octets) × Rose streams.writes_before streams.writes_after
+ScriptEnds shows streams setup most form ScriptRead handed = Rose streams.reads_before streams.reads_after × IsSilent streams
+ScriptEnds shows streams setup most form (TooLong inputs.Script) handed = CameOver streams.input longest_script × ReadsWell streams × IsSilent streams
+ScriptEnds shows streams setup most form (BadLine line cause) handed = HasFirstFault setup most streams.input line cause × ReadsWell streams × IsSilent streams
+ScriptEnds shows streams setup most form (Worn stamp) handed = (clients : List Client) × IsHaltedRun shows streams (halts.Worn stamp) setup most clients handed × IsWorn (halts.Worn stamp) handed.homes
+ScriptEnds shows streams setup most form NoMemory handed =
     (ReadsWell streams × IsSilent streams × HandsNothing handed) ⊎ ((clients : List Client) × IsHaltedRun shows streams halts.NoMemory setup most clients handed)
-ScriptEnds shows streams setup most status handed = ⊥
+ScriptEnds shows streams setup most form status handed = ⊥
 
 -- whether the command serves a script
 abbrev pub Serves : Command → Type 0
 Serves (Server name) = ⊥
+Serves (Audit name) = ⊥
 Serves command = ⊤
 
--- how `run CONFIG` and `play SERVICE` end, and what that shows: without a setup, or as serving the script by their setup does
+-- how `run CONFIG`, `record CONFIG` and `play SERVICE` end, and what that shows: without a setup, or as serving the script by their setup does
 abbrev pub RunEnds : {S : Type 0} → (S → StarterShows) → ShelfTells → Streams → Command → Status → Handed S → Type 0
 RunEnds shows shelf streams command ConfigRead handed = LacksSetup shelf command ConfigRead × IsIdle streams
 RunEnds shows shelf streams command (TooLong inputs.Configuration) handed = LacksSetup shelf command (TooLong inputs.Configuration) × IsIdle streams
 RunEnds shows shelf streams command (ConfigFault number key) handed = LacksSetup shelf command (ConfigFault number key) × IsIdle streams
 RunEnds shows shelf streams command NoMemory handed =
-    (IsIdle streams × HandsNothing handed) ⊎ ((setup : Setup) × IsSetup shelf.file command setup × ScriptEnds shows streams setup (most_clients command) NoMemory handed)
-RunEnds shows shelf streams command status handed = (setup : Setup) × IsSetup shelf.file command setup × ScriptEnds shows streams setup (most_clients command) status handed
+    (IsIdle streams × HandsNothing handed)
+    ⊎ ((setup : Setup) × (form : Form) × IsSetup shelf.file command setup × Writes shelf.file command setup form × ScriptEnds shows streams setup (most_clients command) form NoMemory handed)
+RunEnds shows shelf streams command status handed =
+    (setup : Setup) × (form : Form) × IsSetup shelf.file command setup × Writes shelf.file command setup form × ScriptEnds shows streams setup (most_clients command) form status handed
 
--- where the words, the configuration, the input or the script were refused, nothing is handed back
+-- where the words, the configuration, the input, the script or a record were refused, nothing is handed back
 abbrev pub EndsEarly : {S : Type 0} → Status → Handed S → Type 0
 EndsEarly Usage handed = HandsNothing handed
 EndsEarly ConfigRead handed = HandsNothing handed
@@ -182,6 +223,8 @@ EndsEarly (ConfigFault number key) handed = HandsNothing handed
 EndsEarly (TooLong which) handed = HandsNothing handed
 EndsEarly ScriptRead handed = HandsNothing handed
 EndsEarly (BadLine line cause) handed = HandsNothing handed
+EndsEarly (BadRecord line) handed = HandsNothing handed
+EndsEarly NotARun handed = HandsNothing handed
 EndsEarly status handed = ⊤
 
 -- the run came to its end, or stamps or memory came to theirs

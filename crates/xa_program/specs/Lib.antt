@@ -1,3 +1,4 @@
+pub mod Audit
 pub mod Configuration
 pub mod Headline
 pub mod Input

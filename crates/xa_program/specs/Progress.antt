@@ -1,6 +1,6 @@
 -- How the parts of a run end.
 -- Contracts inside this crate rest on this file, and no public one.
-use Rattle.std.specs.Prelude.{◌≡◌, ◌⊎◌, ℕ, List, [], reverse, Option, Some, None}
+use Rattle.std.specs.Prelude.{◌≡◌, ◌⊎◌, ◌<◌, ◌^◌, ⊤, ℕ, List, [], length, reverse, Option, Some, None}
 use Rattle.xa_domain.specs.xa_types.declared.setup.Setup.{Setup}
 use Rattle.xa_domain.specs.xa_link.Told.{Rose, Grew, GrewByPart}
 use Rattle.xa_domain.specs.xa_link.Reads.{HoldsMore}
@@ -9,11 +9,15 @@ use Rattle.xa_domain.specs.xa_events.declared.event.Event.{Event}
 use Rattle.xa_domain.specs.xa_stamp.Home.{Notes}
 use Rattle.xa_domain.specs.xa_stamp.Merge.{IsMerged}
 use Rattle.xa_domain.specs.xa_script.declared.script.Client.{Client}
+use Rattle.xa_config.specs.Document.{IsConfiguration}
 use Rattle.xa_text.specs.Transcript.{transcript}
+use Rattle.xa_audit.specs.Record.{IsRecord}
 use Rattle.xa_domain.specs.xa_worker.declared.work.Halt.{Halt}
 use Rattle.xa_domain.specs.xa_worker.declared.work.Halt.TheVariants as halts
 use Rattle.xa_program.specs.declared.words.Command.{Command}
-use Rattle.xa_program.specs.declared.words.Command.TheVariants.{Run}
+use Rattle.xa_program.specs.declared.words.Command.TheVariants.{Run, Record}
+use Rattle.xa_program.specs.declared.telling.Form.{Form}
+use Rattle.xa_program.specs.declared.telling.Form.TheVariants as forms
 use Rattle.xa_program.specs.declared.status.Status.{Status}
 use Rattle.xa_program.specs.declared.status.Status.TheVariants.{Done, ConfigRead, ConfigFault, ScriptRead, TooLong, BadLine, WriteFault, NoMemory, Worn}
 use Rattle.xa_program.specs.declared.status.Input.TheVariants as inputs
@@ -32,6 +36,7 @@ SetupRefusedAs shelf name status = ⊥
 -- why the command has no setup: by its file, or for want of memory
 abbrev pub CommandRefusedAs : ShelfTells → Command → Status → Type 0
 CommandRefusedAs shelf (Run name) status = SetupRefusedAs shelf name status
+CommandRefusedAs shelf (Record name) status = SetupRefusedAs shelf name status
 CommandRefusedAs shelf command NoMemory = shelf.faults_after ≡ shelf.faults
 CommandRefusedAs shelf command status = ⊥
 
@@ -43,12 +48,22 @@ ScriptRefusedAs setup most input reads reads_after (BadLine line cause) = HasFir
 ScriptRefusedAs setup most input reads reads_after NoMemory = reads_after ≡ reads
 ScriptRefusedAs setup most input reads reads_after status = ⊥
 
--- the lines were written whole, or in part and the output failed, or nothing was written and memory ran out
-abbrev pub Printed : Option (List ℕ) → Option (List ℕ) → ℕ → ℕ → List ℕ → Status → Type 0
-Printed before after writes writes_after lines Done = Grew before after lines × (writes_after ≡ writes)
-Printed before after writes writes_after lines WriteFault = GrewByPart before after lines × Rose writes writes_after
-Printed before after writes writes_after lines NoMemory = (after ≡ before) × (writes_after ≡ writes)
-Printed before after writes writes_after lines status = ⊥
+-- the octets are the lines of the history's transcript, or its record
+abbrev pub IsWritten : Form → List Client → List Event → List ℕ → Type 0
+IsWritten forms.Transcript clients history octets = octets ≡ transcript (names_of clients) (reverse history)
+IsWritten (forms.Record config) clients history octets = IsRecord octets config (names_of clients) history × (length octets < 2 ^ 64)
+
+-- a record has the configuration that says the setup
+abbrev pub Says : Setup → Form → Type 0
+Says setup forms.Transcript = ⊤
+Says setup (forms.Record config) = IsConfiguration config setup
+
+-- the history was written whole, or in part and the output failed, or nothing was written and memory ran out
+abbrev pub Printed : Option (List ℕ) → Option (List ℕ) → ℕ → ℕ → Form → List Client → List Event → Status → Type 0
+Printed before after writes writes_after form clients history Done = ((octets : List ℕ) × IsWritten form clients history octets × Grew before after octets) × (writes_after ≡ writes)
+Printed before after writes writes_after form clients history WriteFault = ((octets : List ℕ) × IsWritten form clients history octets × GrewByPart before after octets) × Rose writes writes_after
+Printed before after writes writes_after form clients history NoMemory = (after ≡ before) × (writes_after ≡ writes)
+Printed before after writes writes_after form clients history status = ⊥
 
 -- nothing was written, and the history is the merge of the homes, or there is none
 pub record IsUntold (homes : List Notes) (before after : Option (List ℕ)) (writes writes_after : ℕ) (history : List Event) : Type 0 where
@@ -56,17 +71,17 @@ pub record IsUntold (homes : List Notes) (before after : Option (List ℕ)) (wri
   pub took : after ≡ before
   pub wrote : writes_after ≡ writes
 
--- how telling a run ends, by how serving it ended: where that came to its end, the lines of its history are written, whole or in part, unless memory runs
+-- how telling a run ends, by how serving it ended: where that came to its end, its history is written, whole or in part, unless memory runs
 -- out; else nothing is
-abbrev pub TellingEnds : Option Halt → List Notes → List Client → Option (List ℕ) → Option (List ℕ) → ℕ → ℕ → Status → List Event → Type 0
-TellingEnds None homes clients before after writes writes_after Done history =
-    IsMerged homes history × Grew before after (transcript (names_of clients) (reverse history)) × (writes_after ≡ writes)
-TellingEnds None homes clients before after writes writes_after WriteFault history =
-    IsMerged homes history × GrewByPart before after (transcript (names_of clients) (reverse history)) × Rose writes writes_after
-TellingEnds (Some (halts.Worn stamp)) homes clients before after writes writes_after (Worn last) history = (last ≡ stamp) × IsUntold homes before after writes writes_after history
-TellingEnds None homes clients before after writes writes_after NoMemory history = IsUntold homes before after writes writes_after history
-TellingEnds (Some halts.NoMemory) homes clients before after writes writes_after NoMemory history = IsUntold homes before after writes writes_after history
-TellingEnds halt homes clients before after writes writes_after status history = ⊥
+abbrev pub TellingEnds : Option Halt → List Notes → Form → List Client → Option (List ℕ) → Option (List ℕ) → ℕ → ℕ → Status → List Event → Type 0
+TellingEnds None homes form clients before after writes writes_after Done history =
+    IsMerged homes history × ((octets : List ℕ) × IsWritten form clients history octets × Grew before after octets) × (writes_after ≡ writes)
+TellingEnds None homes form clients before after writes writes_after WriteFault history =
+    IsMerged homes history × ((octets : List ℕ) × IsWritten form clients history octets × GrewByPart before after octets) × Rose writes writes_after
+TellingEnds (Some (halts.Worn stamp)) homes form clients before after writes writes_after (Worn last) history = (last ≡ stamp) × IsUntold homes before after writes writes_after history
+TellingEnds None homes form clients before after writes writes_after NoMemory history = IsUntold homes before after writes writes_after history
+TellingEnds (Some halts.NoMemory) homes form clients before after writes writes_after NoMemory history = IsUntold homes before after writes writes_after history
+TellingEnds halt homes form clients before after writes writes_after status history = ⊥
 
 -- whether the yard was asked for the starters of that setup, by how serving the script ended
 abbrev pub AsksBy : Setup → Status → Option (List Setup) → Option (List Setup) → Type 0

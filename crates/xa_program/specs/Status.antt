@@ -1,7 +1,7 @@
 -- The numbers that the program ends with (this project's own).
 use Rattle.std.specs.Prelude.{ℕ}
 use Rattle.xa_program.specs.declared.status.Status.{Status}
-use Rattle.xa_program.specs.declared.status.Status.TheVariants.{Done, Usage, ConfigRead, ConfigFault, ScriptRead, TooLong, BadLine, WriteFault, BadFrame, NoMemory, Worn}
+use Rattle.xa_program.specs.declared.status.Status.TheVariants.{Done, Usage, ConfigRead, ConfigFault, ScriptRead, TooLong, BadLine, WriteFault, BadFrame, NoMemory, Worn, BadRecord, NotARun}
 
 -- the number of each status
 abbrev pub number_of : Status → ℕ
@@ -16,3 +16,5 @@ number_of NoMemory = 6
 number_of (TooLong which) = 7
 number_of (Worn stamp) = 9
 number_of (BadFrame place) = 10
+number_of (BadRecord line) = 11
+number_of NotARun = 12

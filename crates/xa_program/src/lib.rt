@@ -1,7 +1,8 @@
 //! The program around the domain: what it is asked, what its configuration and its script say, how it runs, and what it
-//! prints, on standard error too.
+//! prints, on standard error too. And what the record of a run comes to.
 #![tactic(auto)]
 
+mod auditing;
 mod lives;
 mod outcome;
 mod script;

@@ -7,16 +7,23 @@ use xa_types::Octets;
 // The line of a status that is the same whenever it comes.
 fn line_of(status: &Status) -> Option<&'static str> {
     match status {
-        Status::Usage => Some("usage: xatmi run CONFIG, drill N, play SERVICE, server NAME"),
+        Status::Usage => Some(
+            "usage: xatmi run CONFIG, record CONFIG, audit FILE, drill N, play SERVICE, server NAME",
+        ),
         Status::ConfigRead => Some("cannot read configuration"),
         Status::ScriptRead => Some("cannot read input"),
         Status::WriteFault => Some("cannot write"),
         Status::NoMemory => Some("no memory"),
         Status::TooLong(Input::Configuration) => Some("too long: configuration"),
         Status::TooLong(Input::Script) => Some("too long: script"),
+        Status::TooLong(Input::Record) => Some("too long: record"),
         Status::Worn(_) => Some("stamp at its end"),
-        Status::Done | Status::ConfigFault { .. } | Status::BadLine { .. } | Status::BadFrame(_) =>
-            None,
+        Status::NotARun => Some("not a run"),
+        Status::Done
+        | Status::ConfigFault { .. }
+        | Status::BadLine { .. }
+        | Status::BadFrame(_)
+        | Status::BadRecord(_) => None,
     }
 }
 
@@ -35,6 +42,7 @@ pub fn report<R: Eprint>(rt: &R, status: &Status) -> io::Result<()> {
         Status::ConfigFault { number, key } => report_fault(rt, *number, key),
         Status::BadLine { line, cause } => eprintln!(rt; "script line {line} cause {cause}"),
         Status::BadFrame(place) => eprintln!(rt; "bad frame at {place}"),
+        Status::BadRecord(line) => eprintln!(rt; "record line {line}"),
         _ => match line_of(status) {
             Some(line) => eprintln!(rt; "{line}"),
             None => Ok(()),

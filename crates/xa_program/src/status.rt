@@ -12,22 +12,23 @@ use xa_types::{NoMemory, Octets, Stamp};
 pub enum Input {
     Configuration,
     Script,
+    Record,
 }
 
 /// How a command ended.
 #[derive(Debug, Drop)]
 pub enum Status {
-    /// The script was served and all is written, or the work of a server has ended.
+    /// The script was served and all is written, the events of a record are a run, or the work of a server has ended.
     Done,
     /// The words of the command line aren't those of a command.
     Usage,
-    /// The configuration can't be read.
+    /// The configuration, or the file of a record, can't be read.
     ConfigRead,
     /// The configuration has a fault: the number of its first one, and the key of that.
     ConfigFault { number: u8, key: Octets },
     /// The input failed.
     ScriptRead,
-    /// The configuration or the input has more octets than it may have.
+    /// The configuration, the input or the file of a record has more octets than it may have.
     TooLong(Input),
     /// The script breaks the form: its first line at fault, counted from 1, and the cause.
     BadLine { line: u32, cause: u8 },
@@ -39,6 +40,11 @@ pub enum Status {
     NoMemory,
     /// Stamps came to their end: an event has this one.
     Worn(Stamp),
+    /// The file is no record: the least line, from 1, with which it doesn't begin as one does. The configuration counts
+    /// as one line.
+    BadRecord(u64),
+    /// The events of a record are no run, or none that is over.
+    NotARun,
 }
 
 impl Status {
@@ -58,6 +64,8 @@ impl Status {
             Status::TooLong(_) => 7,
             Status::Worn(_) => 9,
             Status::BadFrame(_) => 10,
+            Status::BadRecord(_) => 11,
+            Status::NotARun => 12,
         }
     }
 

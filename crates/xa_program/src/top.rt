@@ -6,21 +6,23 @@ ghost use Rattle.xa_domain.specs.xa_types.declared.setup.Setup.{Setup};
 ghost use Rattle.xa_domain.specs.xa_script.declared.script.Script.{Script};
 ghost use Rattle.xa_domain.specs.xa_script.Script.{IsScript};
 ghost use Rattle.xa_program.specs.declared.words.Command.{Command};
-ghost use Rattle.xa_program.specs.declared.words.Command.TheVariants.{Server};
+ghost use Rattle.xa_program.specs.declared.words.Command.TheVariants.{Audit, Server};
+ghost use Rattle.xa_program.specs.Audit.{AuditEnds, IsJudged};
 ghost use Rattle.xa_program.specs.Configuration.{shelf_by, IsSetup, TellsSetup, KeepsShelf, AsksFiles, AsksShelf};
-ghost use Rattle.xa_program.specs.Headline.{streams_by, handed_by, IsIdle, RunEnds, ScriptEnds, Serves, EndsEarly, EndsWithoutFault, HandsNothing, longest_script, most_clients};
-ghost use Rattle.xa_program.specs.Progress.{CommandRefusedAs, AsksBy};
+ghost use Rattle.xa_program.specs.Headline.{streams_by, handed_by, IsUnread, IsIdle, Writes, RunEnds, ScriptEnds, Serves, EndsEarly, EndsWithoutFault, HandsNothing, longest_script, most_clients};
+ghost use Rattle.xa_program.specs.Progress.{CommandRefusedAs, AsksBy, Says};
 ghost use Rattle.xa_program.specs.Server.{ServerEnds};
 ghost use Rattle.xa_program.specs.Input.{input_by, Tells};
 ghost use Rattle.xa_program.specs.Words.{command_in};
 ghost use Rattle.xa_program.specs.Yard.{AsksYard};
 
+use crate::auditing::audit_file;
 use crate::outcome::Outcome;
 use crate::script::read_script;
 use crate::server::child_work;
 use crate::setup::{play_setup, read_setup};
 use crate::status::Status;
-use crate::telling::tell;
+use crate::telling::{Form, tell};
 use crate::words::{Command, read_words};
 use std::alloc::Global;
 use std::sync::Wait;
@@ -33,11 +35,12 @@ use xa_types::{NoMemory, Sequence, Setup};
 /// Runs the command that these words are, which stand behind the program's own name.
 ///
 /// `run CONFIG` reads the configuration of that name from the shelf, then a script of up to 64 clients from the input,
-/// serves it by the configured servers, and writes the clients' transcript. `play SERVICE` does the same with a script of
-/// at most one client and one server of that service. `server NAME` is the program of a server, on the input and the
-/// output.
+/// serves it by the configured servers, and writes the clients' transcript. `record CONFIG` does the same, but writes the
+/// record of the run. `play SERVICE` does what `run` does with a script of at most one client and one server of that
+/// service. `audit FILE` reads a record from the shelf, and writes what its events come to. `server NAME` is the program
+/// of a server, on the input and the output.
 ///
-/// The history of `run` and `play` is a run of the machine, so the laws `ends_once`, `answers_once`, `reads_forward` and
+/// The history of `run`, `record` and `play` is a run of the machine, so the laws `ends_once`, `answers_once`, `reads_forward` and
 /// `ended_servers_are_off` of `xa_events` hold of it.
 pub fn run<R: Threads + Wait + Sync, S: Shelf, I: Source, O: Sink, Y: Yard, G: Gate>(
     rt: &R,
@@ -58,7 +61,7 @@ pub fn run<R: Threads + Wait + Sync, S: Shelf, I: Source, O: Sink, Y: Yard, G: G
     // How often a read of a file of the shelf failed, and which files were asked for.
     ensures shelf { KeepsShelf (command_in (map string_bytes words.now)) result.status (S.shows shelf.old) (S.shows shelf.new) }
 
-    // What `run` and `play` come to.
+    // What `run`, `record` and `play` come to. What `record` wrote is judged as a run, if memory doesn't run out.
     ensures ends { (command : Command) → command_in (map string_bytes words.now) ≡ Some command → Serves command
         → RunEnds Y.Start.shows (shelf_by S.shows shelf.old shelf.new) (streams_by I.shows O.shows input.old input.new out.old out.new) command
         result.status (handed_by result) }
@@ -80,7 +83,19 @@ pub fn run<R: Threads + Wait + Sync, S: Shelf, I: Source, O: Sink, Y: Yard, G: G
         → ServerEnds name (streams_by I.shows O.shows input.old input.new out.old out.new) result.status
         × HandsNothing (handed_by result) }
 
-    // Where the words, the configuration, the input or the script are refused, nothing is handed back.
+    // What `audit` comes to; the input is left alone, and nothing is handed back.
+    ensures audit { (name : List ℕ) → command_in (map string_bytes words.now) ≡ Some (Audit name)
+        → AuditEnds (shelf_by S.shows shelf.old shelf.new) name (O.shows out.old) (O.shows out.new) result.status
+        × IsUnread (streams_by I.shows O.shows input.old input.new out.old out.new)
+        × HandsNothing (handed_by result) }
+
+    // Where the shelf tells the octets that `audit` is to judge, and neither it nor the output fails, the status is that of whatever may be answered of them,
+    // or memory ran out.
+    ensures judged { (name octets : List ℕ) → command_in (map string_bytes words.now) ≡ Some (Audit name) → (S.shows shelf.old).file name ≡ Some (Some octets)
+        → (Rose (S.shows shelf.old).faults (S.shows shelf.new).faults → ⊥) → (Rose (O.shows out.old).faults (O.shows out.new).faults → ⊥)
+        → IsJudged octets result.status }
+
+    // Where the words, the configuration, the input, the script or a record are refused, nothing is handed back.
     ensures early { EndsEarly result.status (handed_by result) }
 {
     match read_words(alloc, words) {
@@ -109,13 +124,22 @@ fn obey<R: Threads + Wait + Sync, S: Shelf, I: Source, O: Sink, Y: Yard, G: Gate
     ensures server { (name : List ℕ) → command.now ≡ Server name
         → ServerEnds name (streams_by I.shows O.shows input.old input.new out.old out.new) result.status
         × HandsNothing (handed_by result) }
+    ensures audit { (name : List ℕ) → command.now ≡ Audit name
+        → AuditEnds (shelf_by S.shows shelf.old shelf.new) name (O.shows out.old) (O.shows out.new) result.status
+        × IsUnread (streams_by I.shows O.shows input.old input.new out.old out.new)
+        × HandsNothing (handed_by result) }
     ensures early { EndsEarly result.status (handed_by result) }
 {
     if let Command::Server(name) = command {
         return nothing(alloc, child_work(alloc, name, input, out));
     }
+    if let Command::Audit(name) = command {
+        return nothing(alloc, audit_file(alloc, name.slice(), shelf, out));
+    }
     match setup_of(alloc, command, shelf) {
-        Ok((setup, most)) => serve_script(rt, alloc, setup, most, input, out, yard, gate),
+        Ok((setup, most, form)) => {
+            serve_script(rt, alloc, setup, most, &form, input, out, yard, gate)
+        }
         Err(status) => nothing(alloc, status),
     }
 }
@@ -137,34 +161,44 @@ fn nothing<Y: Yard>(alloc: Global, status: Status) -> Outcome<Y>
     }
 }
 
-// The setup of a command that serves a script, and how many clients that may have.
+// The setup of a command that serves a script, how many clients that may have, and what is written of the run.
 fn setup_of<S: Shelf>(
     alloc: Global,
     command: &Command,
     shelf: &mut S,
-) -> Result<(Setup, u16), Status>
+) -> Result<(Setup, u16, Form), Status>
     requires { Serves command.now }
     ensures found { IfOk result (λ found. IsSetup (S.shows shelf.old).file command.now found.0) }
     ensures most { IfOk result (λ found. found.1 ≡ most_clients command.now) }
+    ensures writes { IfOk result (λ found. Writes (S.shows shelf.old).file command.now found.0 found.2) }
     ensures configured { IfOk result (λ found. is_configured found.0 ≡ true) }
+    ensures says { IfOk result (λ found. Says found.0 found.2) }
     ensures quiet { OnOk result ((S.shows shelf.new).faults ≡ (S.shows shelf.old).faults) }
     ensures refused { IfErr result (CommandRefusedAs (shelf_by S.shows shelf.old shelf.new) command.now) }
     ensures asks { OnOk result (AsksFiles command.now (S.shows shelf.old).asked (S.shows shelf.new).asked) }
     ensures asked { IfErr result (λ status. AsksShelf (Some command.now) status (S.shows shelf.old).asked (S.shows shelf.new).asked) }
 {
     match command {
-        Command::Run(name) => Ok((read_setup(alloc, name.slice(), shelf)?, 64)),
-        Command::Play(service) => Ok((play_setup(alloc, service)?, 1)),
-        Command::Server(_) => unreachable!(),
+        Command::Run(name) => {
+            let (setup, _) = read_setup(alloc, name.slice(), shelf)?;
+            Ok((setup, 64, Form::Transcript))
+        }
+        Command::Record(name) => {
+            let (setup, config) = read_setup(alloc, name.slice(), shelf)?;
+            Ok((setup, 64, Form::Record(config)))
+        }
+        Command::Play(service) => Ok((play_setup(alloc, service)?, 1, Form::Transcript)),
+        Command::Audit(_) | Command::Server(_) => unreachable!(),
     }
 }
 
-// Reads the script, serves it, and writes the transcript.
+// Reads the script, serves it, and writes what is due of the run.
 fn serve_script<R: Threads + Wait + Sync, I: Source, O: Sink, Y: Yard, G: Gate>(
     rt: &R,
     alloc: Global,
     setup: Setup,
     most: u16,
+    form: &Form,
     input: &mut I,
     out: &mut O,
     yard: &mut Y,
@@ -172,9 +206,10 @@ fn serve_script<R: Threads + Wait + Sync, I: Source, O: Sink, Y: Yard, G: Gate>(
 ) -> Outcome<Y>
     requires configured { is_configured setup ≡ true }
     requires most { (1 ≤ most) × (most ≤ 64) }
+    requires says { Says setup form.now }
     ensures ends { ScriptEnds Y.Start.shows
         (streams_by I.shows O.shows input.old input.new out.old out.new)
-        setup most result.status (handed_by result) }
+        setup most form.now result.status (handed_by result) }
     ensures yard { AsksBy setup result.status (Y.asked yard.old) (Y.asked yard.new) }
     ensures early { EndsEarly result.status (handed_by result) }
 {
@@ -190,7 +225,7 @@ fn serve_script<R: Threads + Wait + Sync, I: Source, O: Sink, Y: Yard, G: Gate>(
         cut,
         starters,
     } = serve(rt, alloc, setup, &script, yard, gate);
-    let (status, history) = tell(alloc, halt, &homes, script.clients.slice(), out);
+    let (status, history) = tell(alloc, halt, form, &homes, script.clients.slice(), out);
     Outcome {
         status,
         homes,

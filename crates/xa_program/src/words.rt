@@ -1,8 +1,7 @@
 // The words that the program was started with, and the command that they are.
-ghost use Rattle.std.specs.Prelude.{◌≡◌, ◌⊎◌, ℕ, List, Some, All, IfOk, IfErr, OnErr, IfSome, IsErrOf, map, option_map, option_and_then, string_bytes};
+ghost use Rattle.std.specs.Prelude.{◌≡◌, ◌⊎◌, Some, All, IfOk, IfErr, OnErr, IfSome, IsErrOf, map, option_and_then, string_bytes};
 ghost use Rattle.std.specs.Str.{IsUtf8};
-ghost use Rattle.xa_program.specs.declared.words.Command.TheVariants.{Run};
-ghost use Rattle.xa_program.specs.Words.{own_word, words_behind, begins_with_dash, file_in, name_in, named_command, command_of, command_in};
+ghost use Rattle.xa_program.specs.Words.{own_word, words_behind, begins_with_dash, file_in, name_in, takes_file, filed_command, named_command, command_of, command_in, NamesFile};
 
 use crate::status::Status;
 use std::alloc::Global;
@@ -81,8 +80,12 @@ fn text_of(alloc: Global, word: &Octets) -> Result<String, Status>
 /// What the program is asked to do.
 #[derive(Drop)]
 pub enum Command {
-    /// Serves a script in the domain of the configuration that this file holds.
+    /// Serves a script in the domain of the configuration that this file holds, and writes its transcript.
     Run(Octets),
+    /// The same, but writes the record of the run.
+    Record(Octets),
+    /// Judges the record that this file holds.
+    Audit(Octets),
     /// Plays a script whose calls go to this service.
     Play(Name),
     /// Serves as the server of this name.
@@ -98,15 +101,35 @@ fn begins_with_dash(octets: &[u8]) -> bool
     }
 }
 
-// The run of the file that the word names.
-fn run_of(alloc: Global, file: &[u8]) -> Result<Option<Command>, NoMemory>
-    ensures found { IfOk result (λ command. command ≡ option_map (λ file. Run file) (file_in file.now)) }
-    ensures starved { OnErr result (file_in file.now ≡ Some file.now) }
+// The file that the word names.
+fn file_of(alloc: Global, word: &[u8]) -> Result<Option<Octets>, NoMemory>
+    ensures found { IfOk result (λ file. file ≡ file_in word.now) }
+    ensures starved { OnErr result (file_in word.now ≡ Some word.now) }
 {
-    if begins_with_dash(file) {
+    if begins_with_dash(word) {
         return Ok(None);
     }
-    Ok(Some(Command::Run(Octets::of(alloc, file)?)))
+    Ok(Some(Octets::of(alloc, word)?))
+}
+
+fn takes_file(command: &str) -> bool
+    ensures { result ≡ takes_file command.now }
+{
+    command == "run" || command == "record" || command == "audit"
+}
+
+fn filed_command(command: &str, file: Octets) -> Option<Command>
+    ensures { result ≡ filed_command command.now file }
+{
+    if command == "run" {
+        Some(Command::Run(file))
+    } else if command == "record" {
+        Some(Command::Record(file))
+    } else if command == "audit" {
+        Some(Command::Audit(file))
+    } else {
+        None
+    }
 }
 
 fn name_in(octets: &[u8]) -> Option<Name>
@@ -133,20 +156,22 @@ fn named_command(command: &str, argument: &[u8]) -> Option<Command>
 
 fn command_of(alloc: Global, command: &str, argument: &str) -> Result<Option<Command>, NoMemory>
     ensures found { IfOk result (λ found. found ≡ command_of command.now argument.now) }
-    ensures starved { OnErr result ((file : List ℕ) × (command_of command.now argument.now ≡ Some (Run file))) }
+    ensures starved { OnErr result (NamesFile (command_of command.now argument.now)) }
 {
-    if command == "run" {
-        run_of(alloc, argument.as_bytes())
-    } else {
-        Ok(named_command(command, argument.as_bytes()))
+    if !takes_file(command) {
+        return Ok(named_command(command, argument.as_bytes()));
+    }
+    match file_of(alloc, argument.as_bytes())? {
+        Some(file) => Ok(filed_command(command, file)),
+        None => Ok(None),
     }
 }
 
-/// The command that the words after the program's own name make: `run CONFIG`, `play SERVICE` or `server NAME`, and no
-/// other. Memory is wanted for the name of a file alone.
+/// The command that the words after the program's own name make: `run CONFIG`, `record CONFIG`, `audit FILE`,
+/// `play SERVICE` or `server NAME`, and no other. Memory is wanted for the name of a file alone.
 pub fn read_words(alloc: Global, words: &[String]) -> Result<Option<Command>, NoMemory>
     ensures found { IfOk result (λ found. found ≡ command_in (map string_bytes words.now)) }
-    ensures starved { OnErr result ((file : List ℕ) × (command_in (map string_bytes words.now) ≡ Some (Run file))) }
+    ensures starved { OnErr result (NamesFile (command_in (map string_bytes words.now))) }
 {
     match words {
         [command, argument] => command_of(alloc, command.as_str(), argument.as_str()),

@@ -13,11 +13,18 @@ const GREETING: &[u8] = b"XA\x01\x01\0\0\0\x06\0\0\0\0\x05TEST1XA\x01\x02\0\0\0\
 // The words, the script with its faults, how it ends, and what is written.
 type Row = (&'static [&'static str], Script<'static>, End, &'static [u8]);
 
-static ROWS: [Row; 27] = [
+static ROWS: [Row; 34] = [
     (&[], NONE, End::Usage, b""),
     (&["run"], NONE, End::Usage, b""),
     (&["run", "-c"], NONE, End::Usage, b""),
     (&["run", "c"], NONE, End::ConfigRead, b""),
+    (&["record"], NONE, End::Usage, b""),
+    (&["record", "-c"], NONE, End::Usage, b""),
+    (&["record", "c"], NONE, End::ConfigRead, b""),
+    (&["audit"], NONE, End::Usage, b""),
+    (&["audit", "-r"], NONE, End::Usage, b""),
+    (&["audit", "r"], NONE, End::ConfigRead, b""),
+    (&["audit", "r", "x"], NONE, End::Usage, b""),
     (&["play"], (CALL, &[], &[]), End::Usage, b""),
     (&["play", "ECHO", "x"], (CALL, &[], &[]), End::Usage, b""),
     (&["play", "-x"], (CALL, &[], &[]), End::Usage, b""),

@@ -23,6 +23,8 @@ mod priorities;
 #[cfg(test)]
 mod processes;
 #[cfg(test)]
+mod records;
+#[cfg(test)]
 mod restarts;
 #[cfg(test)]
 mod rows;

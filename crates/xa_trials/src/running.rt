@@ -33,6 +33,9 @@ pub enum End {
     /// The line and the cause.
     BadLine(u32, u8),
     WriteFault,
+    /// The line.
+    BadRecord(u64),
+    NotARun,
 }
 
 fn ends_so(status: &Status, end: End) -> bool {
@@ -41,7 +44,8 @@ fn ends_so(status: &Status, end: End) -> bool {
         | (Status::Usage, End::Usage)
         | (Status::ConfigRead, End::ConfigRead)
         | (Status::ScriptRead, End::ScriptRead)
-        | (Status::WriteFault, End::WriteFault) => true,
+        | (Status::WriteFault, End::WriteFault)
+        | (Status::NotARun, End::NotARun) => true,
         (Status::ConfigFault { number, key }, End::ConfigFault(fault, at)) => {
             *number == fault && key.slice() == at.as_bytes()
         }
@@ -49,6 +53,7 @@ fn ends_so(status: &Status, end: End) -> bool {
         (Status::BadLine { line, cause }, End::BadLine(at, least)) => {
             *line == at && *cause == least
         }
+        (Status::BadRecord(line), End::BadRecord(at)) => *line == at,
         _ => false,
     }
 }
@@ -191,4 +196,41 @@ where
         (want.0, &[want.1]),
     )
     .is_some()
+}
+
+/// What such a command, with no gate, has written, where it ends so.
+pub fn written_by<R: Runtime, Y: Yard>(
+    rt: &R,
+    words: &[&str],
+    files: Files<'_>,
+    script: Script<'_>,
+    yard: &mut Y,
+    end: End,
+) -> Option<Vec<u8>>
+where
+    Y::Line: Drop,
+    Y::Start: Drop,
+{
+    let mut stage = set_up(rt.alloc(), words, files, script)?;
+    let Outcome {
+        status,
+        homes: _,
+        history: _,
+        lives: _,
+        cut: _,
+        starters: _,
+    } = run(
+        rt,
+        rt.alloc(),
+        stage.words.as_slice(),
+        &mut stage.shelf,
+        &mut stage.input,
+        &mut stage.out,
+        yard,
+        &OpenGate,
+    );
+    if !ends_so(&status, end) {
+        return None;
+    }
+    Vec::from_slice(rt.alloc(), stage.out.taken()).ok()
 }

@@ -8,12 +8,12 @@ use xa_program::link::{Link, MemoryArguments, MemoryLink};
 use xa_program::types::{Generation, Name, Octets, ServerId, Stamp};
 use xa_program::{EndedLife, Input, Status, all_words, report, report_lives, words_behind};
 
-const LINES: [(Status, u8, &str); 11] = [
+const LINES: [(Status, u8, &str); 14] = [
     (Status::Done, 0, ""),
     (
         Status::Usage,
         1,
-        "usage: xatmi run CONFIG, drill N, play SERVICE, server NAME",
+        "usage: xatmi run CONFIG, record CONFIG, audit FILE, drill N, play SERVICE, server NAME",
     ),
     (
         Status::BadLine { line: 7, cause: 9 },
@@ -30,8 +30,11 @@ const LINES: [(Status, u8, &str); 11] = [
         "too long: configuration",
     ),
     (Status::TooLong(Input::Script), 7, "too long: script"),
+    (Status::TooLong(Input::Record), 7, "too long: record"),
     (Status::Worn(Stamp(9)), 9, "stamp at its end"),
     (Status::BadFrame(24), 10, "bad frame at 24"),
+    (Status::BadRecord(13), 11, "record line 13"),
+    (Status::NotARun, 12, "not a run"),
 ];
 
 // The number of a configuration's fault, its key and its line.

@@ -7,4 +7,4 @@ pub transcript-requires : goal.transcript-requires
 transcript-requires c =
     let all : length c.as_slice.result.now ≡ length c.args.clients.now =
     ap length (c.as_slice.ensures.value ∙ c.in_ok-names.ensures) ∙ length-map c.args.clients.now (λ (client : Client). client.name) in
-    rw all c.requires
+    rw all c.requires.turns
