@@ -75,7 +75,7 @@ def scripts(report, program, room):
     document = configuration.read((GOOD % program).encode())[0]
     trials = ("xa_trials_low", "xa_trials_objects", "xa_trials_callers", "xa_trials")
     found = {each for crate in trials for path in (TOP / "crates" / crate).glob("src/*.rt") for each in literals(path)}
-    found |= {(TOP / "examples" / name).read_bytes() for name in ("again.script", "bank.script", "echo.script")}
+    found |= {(TOP / "examples" / name).read_bytes() for name in ("again.script", "bank.script", "echo.script", "shops.script")}
     differing = []
     for octets in sorted(found):
         done = subprocess.run([program, "run", config], input=octets, capture_output=True, timeout=LIMIT)
@@ -127,6 +127,9 @@ MISTAKES = [
     ('text "9999"', 'text "9999" # note', "a comment is a line of its own", "cause 4"),
     ('text "9999"', "text \u201c9999\u201d", "the octet 0xe2 may not stand in a script", "straight quotes", "cause 1"),
     ('text "9999"', 'text "9999" noreply', "noreply is for acall, so the call is told TPEINVAL"),
+    ('call REJECT text "9999"', 'acall REJECT text "9999" noreply', "'acall' with noreply isn't served yet", "cause 9"),
+    ('call REJECT text "9999"', "get 7", "the descriptor 7 isn't open here, so the call is told TPEBADDESC"),
+    ('call REJECT text "9999"', "getany", "no descriptor is open here, so the call is told TPEBADDESC"),
     ('call REJECT text "9999"', "advertise REJECT FAIL", "a client has no server, for which 'advertise' is, so the call is told TPEPROTO"),
     ("client branch", "client .branch", "'.branch' is no name: it begins with a dot", "cause 5"),
     ("call REJECT", "call RE\x1b[31mJECT", "the octet 0x1b may not stand in a script", "call RE.[31mJECT", "cause 1"),

@@ -1,8 +1,8 @@
-"""What `tools/why` tells of a record, what `tools/picture` draws of it, and that neither takes what is none."""
+"""What `tools/why` tells of a record, what `tools/picture` draws of it, that neither takes what is none, and the record of the bank."""
 
 from xml.dom import minidom
 
-from checks.cases import TOOLS, run, written
+from checks.cases import TOOLS, TOP, run, written
 
 CONFIG = """queue = [{ name = 'Q1' }, { name = 'Q2' }]
 server = [{ name = 'S1', queue = 'Q1', restart = true, maxgen = 2 }, { name = 'S2', queue = 'Q2' }]
@@ -89,4 +89,15 @@ def pictures(report, program, room):
     report.case("picture: no event", run([TOOLS / "picture", empty])[0], 0)
 
 
-ALL = [reasons, pictures]
+def recorded(report, program, room):
+    """The record that the program writes of the bank, with processes: it judges that as a run, and the tools read it."""
+    status, told, _ = run([program, "record", "examples/bank.toml"], (TOP / "examples/bank.script").read_text())
+    path = written(f"{room}/record", told)
+    many = told.split()[-1] if told else ""
+    report.case("record: the bank", (status, told[:7]), (0, "config "))
+    report.case("audit: the bank", run([program, "audit", path]), (0, f"run of {many} events\n", ""))
+    report.has("why: the bank", run([TOOLS / "why", path, "teller", "1"])[1], "CHECK in its life 1", "forwarded it, hop 1, to ACCT")
+    report.has("picture: the bank", run([TOOLS / "picture", path])[1], "teller", "branch", "QT", "QA", "CHECK", "BOOK1", "BOOK2")
+
+
+ALL = [reasons, pictures, recorded]

@@ -13,6 +13,10 @@ teller 3 DONE
 branch 1 TPESVCFAIL -7 octet 39390a22
 branch 2 OK 2 none
 branch 3 OK 2 octet -
+branch 4 CD 3
+branch 5 CD 3 OK 0 octet 6869
+branch 6 CD 4 TPESVCERR
+branch 7 NOW 3
 """
 IN_WORDS = """teller          1  OK               0  entry account=7 amount=250 memo="booked"
 teller          2  TPESVCERR
@@ -20,6 +24,10 @@ teller          3  DONE
 branch          1  TPESVCFAIL      -7  "99\\x0a\\x22"
 branch          2  OK               2  none
 branch          3  OK               2  ""
+branch          4  CD 3
+branch          5  CD 3 OK          0  "hi"
+branch          6  CD 4 TPESVCERR
+branch          7  NOW 3
 """
 AS_JSON = [
     {"client": "teller", "call": 1, "reply": "OK", "code": 0,
@@ -29,6 +37,10 @@ AS_JSON = [
     {"client": "branch", "call": 1, "reply": "TPESVCFAIL", "code": -7, "data": {"octets": "39390a22"}},
     {"client": "branch", "call": 2, "reply": "OK", "code": 2, "data": None},
     {"client": "branch", "call": 3, "reply": "OK", "code": 2, "data": {"octets": "", "text": ""}},
+    {"client": "branch", "call": 4, "reply": "CD", "code": None, "data": None, "descriptor": 3},
+    {"client": "branch", "call": 5, "reply": "OK", "code": 0, "data": {"octets": "6869", "text": "hi"}, "descriptor": 3},
+    {"client": "branch", "call": 6, "reply": "TPESVCERR", "code": None, "data": None, "descriptor": 4},
+    {"client": "branch", "call": 7, "reply": "NOW", "code": None, "data": None, "now": 3},
 ]
 
 # A line that is none of a transcript, and what told says of it.
@@ -37,6 +49,7 @@ UNTOLD = [
     ("a 1 OK 0 c:none -", "line 2: no shape is named 'none'"),
     ("a 1 OK", "line 2: this is no line of a transcript: a 1 OK"),
     ("a 1 OK 0 octet 0", "line 2: this is no line of a transcript"),
+    ("a 1 CD 3 CD 3", "line 2: this is no line of a transcript"),
     ("xatmi: \x1b[31m", "line 2: this is no line of a transcript: xatmi: \\x1b[31m"),
 ]
 
@@ -46,7 +59,7 @@ def transcripts(report, program, room):
     report.case("told: in words", run(words, TRANSCRIPT), (0, IN_WORDS, ""))
     status, told, _ = run([*words, "--json"], TRANSCRIPT)
     report.case("told: as JSON", (status, [json.loads(line) for line in told.splitlines()]), (0, AS_JSON))
-    for given, wanted in (("a 1 OK 0 none\n", 0), ("a 1 OK 0 none\na 2 DONE\n", 0), (TRANSCRIPT, 1), ("", 1), ("x\n", 2)):
+    for given, wanted in (("a 1 OK 0 none\n", 0), ("a 1 OK 0 none\na 2 DONE\na 3 CD 1\na 4 CD 1 OK 0 none\n", 0), ("a 1 CD 1 TPEOTYPE\n", 1), (TRANSCRIPT, 1), ("", 1), ("x\n", 2)):
         report.case(f"told: --check of {given[:20]!r}", run([*words, "--check"], given)[0], wanted)
     for line, wanted in UNTOLD:
         status, told, said = run(words, f"b 1 OK 0 none\n{line}\n")

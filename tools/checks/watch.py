@@ -88,6 +88,17 @@ call SLEEP50 text "x"
 SLEEPERS = [("c", 2, "SLEEP50", 70), ("b", 1, "SLEEP60", 60), ("a", 1, "SLEEP50", 50)]
 
 
+# A client whose three requests are out at once, as it waits for one of them.
+WAITS_APART = """client a
+acall SLEEP50 none
+acall SLEEP60 none
+prio abs 70
+acall SLEEP50 text "x"
+get 2
+acall ECHO none
+"""
+APART = [("a", 4, "SLEEP50", 70), ("a", 2, "SLEEP60", 60), ("a", 1, "SLEEP50", 50)]
+
 # A client's request that a server passes on to the service of another queue.
 PASSED = """[[queue]]
 name = "P"
@@ -120,12 +131,13 @@ def waiting_at_last(config, given):
 def waits_watched(report, program, room):
     """Which requests wait at a queue, in the order in which they are taken."""
     config = odd(room)
-    lines = waiting_at_last(config, WAITS)
-    service = next(line["service"] + (" none" if "no data" in line["what"] else "") for line in lines if line.get("frame") == "INVOKE")
-    has = {"SLEEP50 none": "a", "SLEEP60 none": "b", "SLEEP50": "c"}[service]
-    waits = next(line for line in lines if line["is"] == "waits")
-    found = [(each["client"], each["call"], each["service"], each["priority"]) for each in waits["requests"]]
-    report.case("watch: who waits", (waits["queue"], found), ("Q", [each for each in SLEEPERS if each[0] != has]))
+    for given, sleepers in ((WAITS, SLEEPERS), (WAITS_APART, APART)):
+        lines = waiting_at_last(config, given)
+        service = next(line["service"] + (" none" if "no data" in line["what"] else "") for line in lines if line.get("frame") == "INVOKE")
+        has = sleepers[["SLEEP50", "SLEEP60 none", "SLEEP50 none"].index(service)]
+        waits = next(line for line in lines if line["is"] == "waits")
+        found = [(each["client"], each["call"], each["service"], each["priority"]) for each in waits["requests"]]
+        report.case("watch: who waits", (waits["queue"], found), ("Q", [each for each in sleepers if each != has]))
     written(config, Path(config).read_text() + PASSED)
     lines = waiting_at_last(config, WAITS_PASSED)
     has = next(line["service"] for line in lines if line.get("frame") == "INVOKE" and line["server"] == "S")

@@ -16,7 +16,8 @@ NUMBER = re.compile(rb"0|-?[1-9][0-9]*")
 QUOTED = re.compile(rb'"((?:[^"\\]|\\["\\])*)"(?= |$)')
 CALLS = ["call", "acall", "get", "getany", "cancel", "connect", "send", "recv", "discon", "prio", "advertise", "unadvertise", "tick"]
 CHANGES = ["advertise", "unadvertise"]
-SERVED = ["call", "prio", *CHANGES]
+SENDING = ["call", "acall"]
+SERVED = [*SENDING, "get", "getany", "cancel", "prio", *CHANGES, "tick"]
 FLAGS = ["noblock", "notime", "noreply", "notran", "sigrstrt"]
 DATA = ["none", "text", "octet", "fill", "c"]
 DIRECTIONS = ["send", "recv", "both", "neither"]
@@ -43,7 +44,8 @@ class Data(NamedTuple):
 
 
 class Call(NamedTuple):
-    """A call of a client: its number from 1, its line, its verb, and of a tpcall its service, its data, its priority and flags."""
+    """A call of a client: its number from 1, its line, its verb and flags; of a tpcall and a tpacall its service, its data and its
+    priority; of a tpgetrply and a tpcancel its descriptor, or none for any."""
 
     number: int
     line: int
@@ -54,6 +56,7 @@ class Call(NamedTuple):
     flags: tuple = ()
     # What it is sure to be told, so that it makes no request, or the empty text.
     refused: str = ""
+    descriptor: int = None
 
 
 class Misread(Exception):
@@ -236,12 +239,14 @@ def limits(kind):
 
 
 def descriptor(line):
-    line.number("the descriptor", 0, 2**64 - 1)
+    return line.number("the descriptor", 0, 2**64 - 1)
 
 
 def call_of(verb, line):
-    """Reads the rest of a call's line; what a tpcall says, and where its service stands; of prio how the priority is set; of a
-    change of the board where its line begins."""
+    """Reads the rest of a call's line; what a tpcall or a tpacall says, and where its service stands; of a tpgetrply or a tpcancel
+    its descriptor and flags, and where its line begins; of prio how the priority is set; of a change of the board where its line
+    begins."""
+    begin, cd, flags = line.at - len(verb), None, ()
     if verb in ("call", "acall", "connect"):
         service, start = line.service()
         data = line.data()
@@ -250,7 +255,7 @@ def call_of(verb, line):
         flags = line.flags(verb == "call")
         return service, start, data, flags
     if verb in ("get", "cancel", "send", "recv", "discon"):
-        descriptor(line)
+        cd = descriptor(line)
     if verb == "send":
         line.data()
         if passes := re.compile(rb" +recv(?= |$)").match(line.text, line.at):
@@ -261,7 +266,6 @@ def call_of(verb, line):
         line.end()
         return how, number
     if verb in CHANGES:
-        begin = line.at - len(verb)
         line.service()
         if verb == "advertise":
             line.service("the routine")
@@ -270,9 +274,9 @@ def call_of(verb, line):
     if verb == "tick":
         line.number("the number of ticks", 1, 2_147_483_647)
     if verb in ("get", "getany", "send", "recv"):
-        line.flags(verb in ("get", "getany"))
+        flags = line.flags(verb in ("get", "getany"))
     line.end()
-    return None
+    return begin, cd, flags
 
 
 def client_of(line):
@@ -333,6 +337,8 @@ def line_faults(number, text, shapes, clients, begun, most):
             raise line.not_taken
         if verb not in SERVED:
             raise Misread(NOT_SERVED, start + 1, f"'{verb}' isn't served yet", "")
+        if verb == "acall" and "noreply" in call[3]:
+            raise Misread(NOT_SERVED, start + 1, "'acall' with noreply isn't served yet", "")
         return [], call
     except Misread as misread:
         cause, column, wrong, guess = misread.args
@@ -371,14 +377,26 @@ def lines_read(octets, document=None, most=MOST_CLIENTS):
 
 def faults_of(octets, document=None, most=MOST_CLIENTS):
     """The least fault of each line in order, and calls that are to be refused."""
-    begun, good = False, True
+    begun, good, sent, left = False, True, 0, set()
     for number, verb, faults, said in lines_read(octets, document, most):
         yield from faults
         begun, good = begun or verb == "client", good and not faults
-        if verb == "call" and not faults and document:
+        if verb == "client":
+            sent, left = 0, set()
+        if verb in SENDING and not faults:
             service, start, data, flags = said
-            if fault := service_fault(document, number, start + 1, service, data, flags):
+            fault = service_fault(document, number, start + 1, service, data, flags) if document else None
+            if fault:
                 yield fault
+            if not (fault and fault.sure):
+                sent += 1
+        elif verb in ("get", "getany", "cancel") and not faults:
+            begin, cd, flags = said
+            if not (sent if cd is None else 1 <= cd <= sent and cd not in left):
+                which = "no descriptor is" if cd is None else f"the descriptor {cd} isn't"
+                yield Fault(number, begin + 1, 0, f"{which} open here, so the call is told TPEBADDESC")
+            if "noblock" not in flags:
+                left.add(cd)
         elif verb in CHANGES and not faults:
             yield Fault(number, said + 1, 0, f"a client has no server, for which '{verb}' is, so the call is told TPEPROTO")
     if good and not begun:
@@ -393,7 +411,7 @@ def calls_of(octets, document):
     for number, verb, _, said in lines_read(octets, document):
         if verb == "client":
             calls, prio = clients.setdefault(said.decode(), []), None
-        elif verb == "call":
+        elif verb in SENDING:
             service, start, data, flags = said
             fault = service_fault(document, number, start + 1, service, data, flags)
             usual = priorities.get(service.decode(), DEFAULT_PRIORITY)
@@ -401,6 +419,9 @@ def calls_of(octets, document):
             refused = fault.wrong if fault and fault.sure else ""
             calls.append(Call(len(calls) + 1, number, verb, service, data, priority, flags, refused))
             prio = prio if fault else None
+        elif verb in ("get", "getany", "cancel"):
+            _, cd, flags = said
+            calls.append(Call(len(calls) + 1, number, verb, flags=flags, descriptor=cd))
         else:
             prio = said if verb == "prio" else prio
             calls.append(Call(len(calls) + 1, number, verb))

@@ -1,9 +1,10 @@
 """Which requests wait at the queues, as the script and the frames of the servers show it.
 
-A client has one request out at most, and makes its next call when the one before was answered. So between two frames it is
-known what each client waits for, but not when its request came to a queue, nor which of several queues it went to, nor a call
-that is refused without a frame, as for a full queue. The board is followed by the changes that servers were told are done, so
-a call that came at the moment of one may be taken for refused. Of requests with the same data it is not known which one a server got.
+A client makes its next call as soon as the one before is over: a tpcall and a tpgetrply when they are answered, and others at
+once. So between two frames it is known what each client waits for, but not when a request came to a queue, nor which of several
+queues it went to, nor a call that is refused without a frame, as for a full queue, nor whether a tpgetrply with TPNOBLOCK found a
+reply. The board is followed by the changes that servers were told are done, so a call that came at the moment of one may be taken
+for refused. Of requests with the same data it is not known which one a server got.
 """
 
 from typing import NamedTuple
@@ -31,10 +32,13 @@ class Request(NamedTuple):
     server: str = ""
     # The queues of its service as it was sent, at one of which it waits.
     queues: tuple = ()
+    # Of a client's its number among the client's requests, and whether the client waits for the answer in that call.
+    number: int = 0
+    is_awaited: bool = False
 
 
-# How many rows the board has at most.
-MOST_ROWS = 256
+# How many rows the board has at most, and how many replies a client may have open.
+MOST_ROWS, MOST_OPEN = 256, 50
 
 
 class Services:
@@ -94,71 +98,122 @@ class Services:
         return not (conversational and conversational.data) and (not data or not accepts or kind in texts_of(accepts.data))
 
 
+class Client:
+    """What a client has done, as far as it is known."""
+
+    def __init__(self, name, calls):
+        # The call that it makes or waits in, and since when.
+        self.name, self.calls, self.at, self.since = name, calls, 0, None
+        # How many requests it has made, that of the tpcall in which it waits, or 0, those that no server has taken, and the numbers
+        # of those that haven't ended.
+        self.made, self.calling, self.sent, self.going = 0, 0, [], set()
+        # Its open descriptors, and those of them whose replies have come.
+        self.open, self.come = set(), set()
+        # The calls that were passed over since it was answered last, since no request was made, as it seemed.
+        self.passed = []
+
+    def call(self):
+        return self.calls[self.at] if self.since is not None and self.at < len(self.calls) else None
+
+    def close(self, number):
+        self.open.discard(number)
+        self.come.discard(number)
+
+    def gets(self, call):
+        """Whether that tpgetrply is over at once."""
+        wanted = self.open if call.descriptor is None else self.open & {call.descriptor}
+        if found := wanted & self.come:
+            self.close(min(found))
+        return bool(found) or not wanted or "noblock" in call.flags
+
+
 class Waiting:
-    """What each client waits for: `calls` has of each client the calls that may make a request, each with its data's mark."""
+    """What each client waits for: `calls` has of each client its calls, of those that send a request with its data's mark."""
 
     def __init__(self, document, calls):
-        self.services, self.calls = Services(document), calls
-        self.places = {client: {call.number: place for place, call in enumerate(each)} for client, each in calls.items()}
-        self.at = dict.fromkeys(calls, 0)
-        self.since = dict.fromkeys(calls, None)
+        self.services = Services(document)
+        self.clients = {name: Client(name, each) for name, each in calls.items()}
         self.in_hand, self.forwarded = {}, []
         # Of each server the call of its service that no other server has taken, and what it set for the priority of the next request.
         self.asked, self.set = {}, {}
         self.silent = {server for servers in self.services.servers.values() for server in servers}
         # The servers that are given up.
         self.gone = set()
-        # Of each client the queues of the call that it waits for, as it made that, and the calls that were passed over before it.
-        self.put, self.passed = {}, {client: [] for client in calls}
 
     def greeted(self, server, when):
         """That server has greeted or is given up: behind the last one the clients begin."""
         if server in self.silent:
             self.silent.discard(server)
             if not self.silent:
-                self.since = dict.fromkeys(self.calls, when)
-                for client in self.calls:
-                    self.call_of(client)
+                for client in self.clients.values():
+                    client.since = when
+                    self.go_on(client, when)
 
     def is_up(self, queues):
         """Whether a server of these queues is left."""
         return any(server not in self.gone for queue in queues for server in self.services.servers[queue])
 
-    def call_of(self, client):
-        """The call that the client waits for, behind those whose services have no row or no server left; none where it has no
-        more."""
-        calls = self.calls[client]
-        while self.at[client] < len(calls):
-            call = calls[self.at[client]]
-            if self.is_up(self.put.setdefault(client, self.services.queues(call.service))):
-                return call
-            self.passed[client].append(self.at[client])
-            self.at[client] += 1
-            del self.put[client]
-        return None
+    def go_on(self, client, when):
+        """The client goes on with its calls, up to one in which it waits."""
+        while (call := client.call()) and self.is_over(client, call):
+            client.at, client.since = client.at + 1, when
 
-    def busy(self):
-        """The clients whose requests a server has, or passed on."""
-        return {each.client for each in [*self.in_hand.values(), *self.forwarded]}
+    def is_over(self, client, call):
+        """Makes the call, where it isn't under way yet; answers whether the client goes on."""
+        if call.verb == "acall":
+            self.send(client, call)
+        elif call.verb == "call":
+            client.calling = client.calling or self.send(client, call)
+            if client.calling in client.going:
+                return False
+            client.calling = 0
+        elif call.verb in ("get", "getany"):
+            return client.gets(call)
+        elif call.verb == "cancel":
+            client.close(call.descriptor)
+        return True
+
+    def send(self, client, call):
+        """The number of the call's request; 0 where its service has no row or no server left, or no reply could come."""
+        queues = () if call.refused else self.services.queues(call.service)
+        if self.is_up(queues) and len(client.going | client.come) < MOST_OPEN:
+            return self.make(client, call, queues)
+        client.passed.append(client.at)
+        return 0
+
+    def make(self, client, call, queues):
+        client.made += 1
+        client.going.add(client.made)
+        is_awaited = call.verb == "call"
+        if not is_awaited:
+            client.open.add(client.made)
+        service, since = call.service, client.since
+        client.sent.append(
+            Request(client.name, call.number, service, service, call.data, call.priority, since, since, "", 0, "", queues, client.made, is_awaited)
+        )
+        return client.made
 
     def out(self):
-        """The requests that wait, of those that are known: the forwarded ones, those of services, and one a client that has more calls."""
+        """The requests that wait, of those that are known: the forwarded ones, those of services, and those of clients."""
         yield from self.forwarded
         yield from self.asked.values()
-        busy = self.busy()
-        for client, since in self.since.items():
-            call = self.call_of(client) if since is not None and client not in busy else None
-            if call:
-                queues = self.put[client]
-                yield Request(client, call.number, call.service, call.service, call.data, call.priority, since, since, "", 0, "", queues)
+        for client in self.clients.values():
+            yield from client.sent
+
+    def is_served(self, client):
+        """Whether a server has what the client waits for."""
+        call = client.call()
+        number = client.calling or (call and call.verb == "get" and call.descriptor)
+        return any((each.client, each.number) == (client.name, number) for each in self.in_hand.values())
 
     def later(self, service, data):
-        """The calls that have this service and data beside those that clients wait for, with how many calls they are away."""
-        busy = {each.client for each in self.in_hand.values()}
-        for client, calls in self.calls.items():
-            for place in [*self.passed[client], *range(self.at[client] + 1, len(calls))] if client not in busy else []:
-                if (calls[place].service, calls[place].data) == (service, data):
-                    yield abs(place - self.at[client]), client, calls[place], place
+        """The calls that have this service and data beside those whose requests are known to be out, with how many calls they are
+        away."""
+        for client in self.clients.values():
+            for place in [*client.passed, *range(client.at + 1, len(client.calls))] if not self.is_served(client) else []:
+                call = client.calls[place]
+                if (call.service, call.data) == (service, data) and not call.refused:
+                    yield abs(place - client.at), client, place
                     break
 
     def invoked(self, server, service, data, when):
@@ -173,17 +228,43 @@ class Waiting:
             elif request.server:
                 del self.asked[request.server]
                 self.set.pop(request.server, None)
+            else:
+                self.clients[request.client].sent.remove(found[0])
         elif later := sorted(self.later(service, data), key=lambda each: each[0]):
-            _, client, call, place = later[0]
-            self.at[client] = place
-            self.put.pop(client, None)
-            request = Request(client, call.number, service, service, data, call.priority, when, when, "", len(later) - 1)
+            _, client, place = later[0]
+            request = self.jump(client, place, when)._replace(others=len(later) - 1)
         else:
             request = Request("", 0, service, service, data, 0, when, when, "", 0)
-        # A forward of that client isn't under way any more: it failed, and its call was told so.
-        self.forwarded = [each for each in self.forwarded if each.client != request.client or not request.client]
         self.in_hand[server] = request
         return request
+
+    def jump(self, client, place, when):
+        """The client has made the call at that place, so those before it are over. Answers its request."""
+        call = client.calls[place]
+        self.forget(client, lambda each: each.is_awaited and each.call < call.number)
+        if call.verb == "call":
+            self.forget(client, lambda each: each.call > call.number)
+            client.at = place
+        client.since = when
+        number = self.make(client, call, self.services.queues(call.service))
+        request = client.sent.pop()
+        if call.verb == "call":
+            client.calling = number
+        else:
+            client.at = max(client.at, place + 1)
+            self.go_on(client, when)
+        return request
+
+    def forget(self, client, is_none):
+        """Those requests of that client are not out, though no frame told it."""
+        gone = {each for each in [*client.sent, *self.forwarded] if each.client == client.name and is_none(each)}
+        client.sent = [each for each in client.sent if each not in gone]
+        self.forwarded = [each for each in self.forwarded if each not in gone]
+        for each in gone:
+            client.going.discard(each.number)
+            client.close(each.number)
+        if client.calling not in client.going:
+            client.calling = 0
 
     def passed_on(self, server, service, subtype, data, when):
         """A server forwarded its request; answers whether the forward may have been taken."""
@@ -228,11 +309,12 @@ class Waiting:
         return request
 
     def answer(self, request, when):
-        if request.client:
-            self.at[request.client] = self.places[request.client][request.call] + 1
-            self.since[request.client], self.passed[request.client] = when, []
-            self.put.pop(request.client, None)
-            self.call_of(request.client)
+        client = self.clients.get(request.client)
+        if client:
+            client.going.discard(request.number)
+            client.come |= client.open & {request.number}
+            client.passed = []
+            self.go_on(client, when)
 
     def given_up(self, server, when):
         self.gone.add(server)
@@ -240,8 +322,11 @@ class Waiting:
         if not self.is_up([queue]):
             self.services.withdraw(queue)
         self.greeted(server, when)
-        for each in [each for each in self.forwarded if not self.is_up(each.queues)]:
-            self.forwarded.remove(each)
+        swept = [each for each in self.out() if not self.is_up(each.queues)]
+        self.forwarded = [each for each in self.forwarded if each not in swept]
+        for client in self.clients.values():
+            client.sent = [each for each in client.sent if each not in swept]
+        for each in swept:
             self.answer(each, when)
 
     def by_queue(self):

@@ -6,7 +6,7 @@ use Rattle.std.proofs.lemmas.List.Elements.{All-nil}
 use Rattle.xa_client_worker.specs.xa_events.Board.{boot, published}
 use Rattle.xa_client_worker.specs.xa_events.Caller.{ticks, tick_floor}
 use Rattle.xa_client_worker.specs.xa_events.Homes.{home_of}
-use Rattle.xa_client_worker.specs.xa_events.Homes.Home.{BoardHome, QueueHome, ClockHome}
+use Rattle.xa_client_worker.specs.xa_events.Homes.Home.{BoardHome, QueueHome}
 use Rattle.xa_client_worker.specs.xa_stamp.declared.home.Stamped.{Stamped}
 use Rattle.xa_client_worker.specs.xa_lock.declared.makers.Made.{Made}
 use Rattle.xa_client_worker.specs.xa_lock.declared.pass.LockPass.{LockPass}
@@ -104,7 +104,7 @@ queue_pass d w k worker pass it id none =
 
 -- what the caller is
 abbrev pub caller_at : Domain → ℕ → ℕ → Seat Filling → CallerState
-caller_at d worker least seat = record { work = record { setup = d.setup; clients = d.clients; id = record { 0 = worker }; stamp = d.booted; own = []; room = 0 }; seat = seat; op = 0; sent = 0; least = least; priority = None; phase = Idle }
+caller_at d worker least seat = record { work = record { setup = d.setup; clients = d.clients; id = record { 0 = worker }; stamp = d.booted; own = []; room = 0 }; seat = seat; op = 0; sent = 0; least = least; priority = None; out = []; phase = Idle }
 
 abbrev pub desk_at : CallerState → Post → Desk
 desk_at caller post = record { caller = caller; reader = post.reader; board = Some post.board; queues = post.queues; clock = Some post.clock }

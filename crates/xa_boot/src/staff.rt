@@ -98,7 +98,7 @@ impl Staff {
         let id = CallerId(self.left);
         let work = Work::new(alloc, &domain.setup, domain.clients, id, domain.booted);
         Desk {
-            caller: Caller::new(work, seat, self.version),
+            caller: Caller::new(alloc, work, seat, self.version),
             reader,
             board: Some(board),
             queues,

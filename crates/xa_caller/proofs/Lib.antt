@@ -1,6 +1,12 @@
+pub mod Standing
+pub mod Counting
+pub mod Ordering
 pub mod Reading
 pub mod Next
 pub mod Keeping
+pub mod Fetching
+pub mod Replying
+pub mod Departing
 pub mod Unsent
 pub mod Sound
 pub mod Spelled

@@ -1,10 +1,10 @@
 -- Of each event that a caller notes: it meets what is asked of the caller's own events.
-use Rattle.std.proofs.Common.{false, ◌≡◌, ℕ, ◌+◌, ◌<◌, ◌≤◌, if◌then◌else◌, ◌||◌, not, Bool, ℤ, true, List, [], ◌∷◌, length, Option, Some, None, inl, inr, refl, sym, ◌∙◌, ap, subst, arith}
-use Rattle.std.specs.List.{All, find}
+use Rattle.std.proofs.Common.{false, ◌≡◌, ℕ, ◌+◌, ◌<◌, ◌≤◌, if◌then◌else◌, ◌||◌, ◌&&◌, ◌==◌, not, Bool, ℤ, true, List, [], ◌∷◌, ◌++◌, map, ◌⊎◌, ⊎_elim, length, Option, Some, None, inl, inr, refl, sym, ◌∙◌, ap, subst, arith}
+use Rattle.std.specs.List.{All, find, list_any, list_all}
 use Rattle.std.proofs.lemmas.List.Elements.{All-head, All-tail, All-weaker}
 use Rattle.std.specs.Prelude.{slice_get, ◌-◌, nat_lt, IsSome}
 use Rattle.xa_types.specs.declared.data.Kind.{Kind}
-use Rattle.std.proofs.lemmas.Bool.{cases_Bool, and_parts, ltb-true}
+use Rattle.std.proofs.lemmas.Bool.{cases_Bool, or_left, or_right, and_parts, ltb-true}
 use Rattle.xa_types.specs.declared.call.Mode.{Mode}
 use Rattle.xa_types.specs.declared.call.Mode.TheVariants.{Reply}
 use Rattle.xa_types.specs.declared.ids.CallerId.{CallerId}
@@ -16,10 +16,12 @@ use Rattle.xa_types.specs.Kind.{is_sound, is_accepted}
 use Rattle.xa_types.specs.Priority.{priority_of}
 use Rattle.xa_types.specs.Rows.{row_for, row_with}
 use Rattle.xa_types.specs.Setup.{service_named}
-use Rattle.xa_events.specs.declared.event.Event.TheVariants.{Advertise, Withdraw, Accept, Answer, Refuse, Leave, Priority}
+use Rattle.xa_events.specs.declared.event.Event.TheVariants.{Advertise, Withdraw, Accept, Answer, Cancel, Refuse, NotYet, Leave, Priority}
 use Rattle.xa_events.specs.declared.event.Accepted.{Accepted}
 use Rattle.xa_events.specs.declared.event.Replied.{Replied}
+use Rattle.xa_events.specs.declared.event.Cancelled.{Cancelled as CancelledOne}
 use Rattle.xa_events.specs.declared.event.Prioritized.{Prioritized}
+use Rattle.xa_events.specs.declared.event.Unready.{Unready}
 use Rattle.xa_events.specs.declared.event.Refused.{Refused as RefusedCall}
 use Rattle.xa_events.specs.declared.event.Event.{Event}
 use Rattle.xa_events.specs.declared.event.Doing.{Doing}
@@ -27,18 +29,17 @@ use Rattle.xa_events.specs.declared.event.Doing.TheVariants.{Busy}
 use Rattle.xa_events.specs.Server.{doing, is_busy, held_in}
 use Rattle.xa_events.specs.Homes.{at_home}
 use Rattle.xa_events.specs.Homes.Home.{CallerHome}
-use Rattle.xa_events.specs.Caller.{is_client, is_serving, is_active, descriptor_limit, accepted, last_op, just_accepted, least_version, open_descriptors, next_priority}
+use Rattle.xa_events.specs.Caller.{accepted_in, is_client, is_serving, is_active, descriptor_limit, accepted, last_op, just_accepted, least_version, open_descriptors, next_priority}
 use Rattle.xa_events.specs.Cases.{IsNextCall, ByServer, queue_by, HasRoom, asked_priority, priority_by, ShowsItself, IsOwnEvidence}
-use Rattle.xa_events.specs.Words.{has}
+use Rattle.xa_events.specs.Words.{has, same_request}
 use Rattle.xa_events.specs.Calls.{is_invalid_ask, is_invalid_call}
 use Rattle.xa_types.specs.Name.{is_name}
 use Rattle.xa_types.specs.declared.call.Ask.{Ask}
 use Rattle.xa_events.proofs.WordsLemmas.{same_request_of}
 use Rattle.xa_worker.specs.Work.{WorkState, IsNext, theirs}
-use Rattle.xa_caller.specs.declared.phase.Open.{Open}
-use Rattle.xa_caller.specs.declared.phase.Phase.TheVariants.{Idle, Sent}
-use Rattle.xa_caller.specs.Phases.{just_in, open_in}
-use Rattle.xa_caller.specs.Caller.{CallerState, IsSound, MayCall}
+use Rattle.xa_caller.specs.declared.phase.Phase.TheVariants.{Idle}
+use Rattle.xa_caller.specs.Phases.{request_of, Describes}
+use Rattle.xa_caller.specs.Caller.{CallerState, IsSound, MayCall, view_of}
 use Rattle.xa_caller.specs.Changes.{IsChangeBy, tick_of}
 
 -- a caller that may make a call is active
@@ -81,11 +82,11 @@ sets_next c sound may p by next = record {
 }
 
 pub accepts_next : (c : CallerState) → IsSound c → MayCall c → (a : Accepted) → a.by ≡ c.work.id → a.op ≡ c.op + 1 → a.request ≡ record { caller = c.work.id; number = c.sent + 1 } → a.mode ≡ Reply → is_sound c.work.setup a.payload ≡ true → c.least ≤ a.version
-    → a.priority ≡ priority_by c.work.setup a.service c.priority → open_in c.phase ≡ [] → IsNext c.work (Accept a)
-accepts_next c sound may a by next mine mode fine recent priority none =
+    → a.priority ≡ priority_by c.work.setup a.service c.priority → length (view_of c.work).descriptors < descriptor_limit c.work.clients c.work.id.0 → IsNext c.work (Accept a)
+accepts_next c sound may a by next mine mode fine recent priority least =
     let w : WorkState = c.work in
     let floor = sound.reads.floor in
-    let room : HasRoom w.clients w.id.0 Reply (theirs w) = subst (λ (rs : List RequestId). length rs < descriptor_limit w.clients w.id.0) (sym (sound.reads.descriptors ∙ none)) (some_limit w.clients w.id.0) in
+    let room : HasRoom w.clients w.id.0 Reply (theirs w) = least in
     record {
       its = ap (λ (id : CallerId). id.0) by;
       met = record {
@@ -99,26 +100,43 @@ accepts_next c sound may a by next mine mode fine recent priority none =
       };
     }
 
-pub answers_next : (c : CallerState) → IsSound c → MayCall c → (a : Replied) (sent : Open) → a.by ≡ c.work.id → a.op ≡ c.op → a.request ≡ sent.request → sent.request.caller ≡ c.work.id → c.phase ≡ Sent sent → IsNext c.work (Answer a)
-answers_next c sound may a sent by op same mine is =
+-- one of the open descriptors is open
+pub has_one : (front back : List RequestId) (r : RequestId) → has r (front ++ r ∷ back) ≡ true
+has_one [] back r = or_left (same_request r r) (list_any (same_request r) back) (same_request_of r r refl)
+has_one (q ∷ front) back r = or_right (same_request r q) (list_any (same_request r) (front ++ r ∷ back)) (has_one front back r)
+
+pub answers_next : (c : CallerState) → IsSound c → MayCall c → (a : Replied) (front back : List RequestId) → a.by ≡ c.work.id → (a.op ≡ c.op + 1) ⊎ ((a.op ≡ c.op) × (accepted_in (view_of c.work).called ≡ Some a.request)) → a.request.caller ≡ c.work.id → (view_of c.work).descriptors ≡ front ++ a.request ∷ back → IsNext c.work (Answer a)
+answers_next c sound may a front back by turn mine is =
     let w : WorkState = c.work in
-    let just : just_accepted w.id.0 (theirs w) ≡ Some a.request = sound.reads.just ∙ ap just_in is ∙ ap Some (sym same) in
-    let out : open_descriptors w.id.0 (theirs w) ≡ a.request ∷ [] = sound.reads.descriptors ∙ ap open_in is ∙ ap (λ r. r ∷ []) (sym same) in
+    let called = sound.reads.called in
     record {
       its = ap (λ (id : CallerId). id.0) by;
       met = record {
         active = subst (λ (id : CallerId). is_active w.clients id.0 (theirs w) ≡ true) (sym by) (is_active_now c sound may);
-        op = inr (subst (λ (id : CallerId). (a.op ≡ last_op id.0 (theirs w)) × (just_accepted id.0 (theirs w) ≡ Some a.request)) (sym by) (op ∙ sym sound.reads.called, just));
-        caller = ap (λ (r : RequestId). r.caller) same ∙ mine ∙ sym by;
-        is_open = subst (λ (id : CallerId). has a.request (open_descriptors id.0 (theirs w)) ≡ true) (sym by) (subst (λ (rs : List RequestId). has a.request rs ≡ true) (sym out) (rw (same_request_of a.request a.request refl) refl));
+        op = subst (λ (id : CallerId). (a.op ≡ last_op id.0 (theirs w) + 1) ⊎ ((a.op ≡ last_op id.0 (theirs w)) × (just_accepted id.0 (theirs w) ≡ Some a.request))) (sym by)
+            (⊎_elim (λ (next : a.op ≡ c.op + 1). inl (next ∙ ap (λ n. n + 1) (sym called))) (λ (again : (a.op ≡ c.op) × (accepted_in (view_of c.work).called ≡ Some a.request)). inr (again.0 ∙ sym called, again.1)) turn);
+        caller = mine ∙ sym by;
+        is_open = subst (λ (id : CallerId). has a.request (open_descriptors id.0 (theirs w)) ≡ true) (sym by) (subst (λ (rs : List RequestId). has a.request rs ≡ true) (sym is) (has_one front back a.request));
       };
     }
 
-pub leaves_next : (c : CallerState) → IsSound c → is_client c.work.clients c.work.id.0 ≡ true → c.phase ≡ Idle → (id : CallerId) → id ≡ c.work.id → IsNext c.work (Leave id)
-leaves_next c sound known idle id is =
+pub cancels_next : (c : CallerState) → IsSound c → MayCall c → (x : CancelledOne) (front back : List RequestId) → x.by ≡ c.work.id → x.op ≡ c.op + 1 → x.request.caller ≡ c.work.id → (view_of c.work).descriptors ≡ front ++ x.request ∷ back → IsNext c.work (Cancel x)
+cancels_next c sound may x front back by next mine is =
+    let w : WorkState = c.work in
+    record {
+      its = ap (λ (id : CallerId). id.0) by;
+      met = record {
+        call = inl (subst (λ (id : CallerId). IsNextCall w.clients id.0 x.op (theirs w)) (sym by) (next_call c sound may x.op next));
+        caller = mine ∙ sym by;
+        is_open = subst (λ (id : CallerId). has x.request (open_descriptors id.0 (theirs w)) ≡ true) (sym by) (subst (λ (rs : List RequestId). has x.request rs ≡ true) (sym is) (has_one front back x.request));
+      };
+    }
+
+pub leaves_next : (c : CallerState) → IsSound c → is_client c.work.clients c.work.id.0 ≡ true → c.phase ≡ Idle → c.out ≡ [] → (id : CallerId) → id ≡ c.work.id → IsNext c.work (Leave id)
+leaves_next c sound known idle none id is =
     subst (λ (i : CallerId). IsNext c.work (Leave i)) (sym is) (record {
       its = refl;
-      met = record { known = known; not_left = sound.reads.stands; none = sound.reads.descriptors ∙ ap open_in idle; unconnected = sound.reads.unconnected };
+      met = record { known = known; not_left = sound.reads.stands; none = subst (λ p. Describes c.out p (view_of c.work).descriptors) idle sound.reads.descriptors ∙ ap (map request_of) none; unconnected = sound.reads.unconnected };
     })
 
 -- a row has the priority of its service
@@ -215,3 +233,15 @@ pub change_aside : (c : CallerState) (op version : ℕ) (e : Event) → IsChange
 change_aside c op version (Advertise a) is = refl
 change_aside c op version (Withdraw w) is = refl
 change_aside c op version _ is = absurd is
+
+-- none of these has an answer yet
+pub unready_next : (c : CallerState) → IsSound c → MayCall c → (u : Unready) → u.by ≡ c.work.id → u.op ≡ c.op + 1 → 0 < length u.requests → list_all (λ (r : RequestId). (r.caller.0 == c.work.id.0) && has r (view_of c.work).descriptors) u.requests ≡ true → IsNext c.work (NotYet u)
+unready_next c sound may u by next some each =
+    let w : WorkState = c.work in
+    record {
+      its = ap (λ (id : CallerId). id.0) by;
+      met = record {
+        call = subst (λ (id : CallerId). IsNextCall w.clients id.0 u.op (theirs w)) (sym by) (next_call c sound may u.op next);
+        looks = record { some = some; each = subst (λ (id : CallerId). list_all (λ (r : RequestId). (r.caller.0 == id.0) && has r (open_descriptors id.0 (theirs w))) u.requests ≡ true) (sym by) each };
+      };
+    }

@@ -1,5 +1,6 @@
 -- A caller as it stands: its work, and what it keeps of it (XATMI, tpcall; that a caller has a number and stamps is this project's own).
-use Rattle.std.specs.Prelude.{◌≡◌, ◌⊎◌, ℕ, ℤ, ◌≤◌, Bool, true, false, List, [], Option}
+use Rattle.std.specs.Prelude.{◌≡◌, ◌⊎◌, ℕ, ℤ, ◌<◌, ◌≤◌, Bool, true, false, List, [], ◌∷◌, Option}
+use Rattle.xa_types.specs.declared.ids.RequestId.{RequestId}
 use Rattle.std.specs.List.{All}
 use Rattle.xa_types.specs.declared.row.Row.{Row}
 use Rattle.xa_types.specs.declared.setup.Setup.{Setup}
@@ -11,12 +12,13 @@ use Rattle.xa_events.specs.Views.{CallerView, caller_view}
 use Rattle.xa_cell.specs.declared.tokens.Seat.{Seat}
 use Rattle.xa_worker.specs.Work.{WorkState, theirs}
 use Rattle.xa_caller.specs.declared.cargo.Filling.{Filling}
+use Rattle.xa_caller.specs.declared.phase.Open.{Open}
 use Rattle.xa_caller.specs.declared.phase.Phase.{Phase}
-use Rattle.xa_caller.specs.Phases.{just_in, open_in}
+use Rattle.xa_caller.specs.Phases.{JustIs, Describes}
 
 -- what a caller is, a client or the caller of a server: its work, its seat among the reply cells, the number of its last call, how many requests of it were accepted, the least
 -- version of the board that it may still read, the priority that it set for its next request, absolute or to be added to the service's own, if it set one,
--- and where its call stands; it hasn't left and begun no conversation
+-- the requests that are out, whose descriptors its tpacalls gave, in ascending order, and where its call stands; it hasn't left and begun no conversation
 pub record CallerState : Type 0 where
   pub work : WorkState
   pub seat : Seat Filling
@@ -24,27 +26,35 @@ pub record CallerState : Type 0 where
   pub sent : ℕ
   pub least : ℕ
   pub priority : Option (Bool × ℤ)
+  pub out : List Open
   pub phase : Phase
 
+-- the numbers of these requests rise behind the first number, and none is above the last
+abbrev pub Ascends : ℕ → List RequestId → ℕ → Type 0
+Ascends low [] high = low ≤ high
+Ascends low (r ∷ rs) high = (low < r.number) × Ascends r.number rs high
+
 -- the tables are what is read off the caller's events
-pub record Reads (setup : Setup) (view : CallerView) (op sent least : ℕ) (priority : Option (Bool × ℤ)) (phase : Phase) : Type 0 where
+pub record Reads (setup : Setup) (view : CallerView) (op sent least : ℕ) (priority : Option (Bool × ℤ)) (out : List Open) (phase : Phase) : Type 0 where
   pub called : op_of view.called ≡ op
-  pub just : accepted_in view.called ≡ just_in phase
+  pub just : JustIs out phase (accepted_in view.called)
   pub accepted : view.accepted ≡ sent
-  pub descriptors : view.descriptors ≡ open_in phase
+  pub descriptors : Describes out phase view.descriptors
   pub floor : greatest (boot setup) view.versions ≤ least
   pub stands : view.left ≡ false
   pub stays : view.leaving ≡ false
   pub set : priority_asked view.set ≡ priority
   pub unconnected : view.connections ≡ []
+  pub ascend : Ascends 0 view.unanswered sent
 
 -- what is read off all that a worker noted
 abbrev pub view_of : WorkState → CallerView
 view_of w = caller_view w.clients w.id.0 (theirs w)
 
--- what holds of each caller: its tables are what its events say
+-- what holds of each caller: its tables are what its events say; and that of a server has nothing out between its calls
 pub record IsSound (c : CallerState) : Type 0 where
-  pub reads : Reads c.work.setup (view_of c.work) c.op c.sent c.least c.priority c.phase
+  pub reads : Reads c.work.setup (view_of c.work) c.op c.sent c.least c.priority c.out c.phase
+  pub served : is_client c.work.clients c.work.id.0 ≡ false → c.out ≡ []
 
 -- it may make a call: it is a client, or its server has a request in hand
 abbrev pub MayCall : CallerState → Type 0

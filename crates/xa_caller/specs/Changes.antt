@@ -1,5 +1,5 @@
 -- What each call of a caller leaves (this project's own).
-use Rattle.std.specs.Prelude.{◌≡◌, ◌≢◌, ◌⊎◌, ℕ, ℤ, Bool, ◌+◌, ◌-◌, ◌≤◌, ◌^◌, max, true, false, Option, Some, None, IsSome, Result, Ok, Err, [], ◌∷◌}
+use Rattle.std.specs.Prelude.{◌≡◌, ◌≢◌, ◌⊎◌, ℕ, ℤ, Bool, ◌+◌, ◌-◌, ◌≤◌, ◌^◌, max, true, false, List, length, map, slice_get, ◌++◌, Option, Some, None, IsSome, Result, Ok, Err, [], ◌∷◌}
 use Rattle.std.specs.List.{find, Contains}
 use Rattle.xa_types.specs.declared.ids.CallerId.{CallerId}
 use Rattle.xa_types.specs.declared.ids.QueueId.{QueueId}
@@ -12,18 +12,20 @@ use Rattle.xa_types.specs.declared.row.Row.{Row}
 use Rattle.xa_types.specs.Found.{FoundRows}
 use Rattle.xa_types.specs.Kind.{kind_of, is_accepted}
 use Rattle.xa_events.specs.declared.event.Event.{Event}
-use Rattle.xa_events.specs.declared.event.Event.TheVariants.{Advertise, Withdraw, Accept, Answer, Refuse, Leave, Priority, Tick}
+use Rattle.xa_events.specs.declared.event.Event.TheVariants.{Advertise, Withdraw, Accept, Answer, Cancel, Refuse, Leave, Priority, Tick}
 use Rattle.xa_events.specs.declared.event.Evidence.{Evidence}
-use Rattle.xa_events.specs.declared.event.Evidence.TheVariants.{Version, Cells}
+use Rattle.xa_events.specs.declared.event.Evidence.TheVariants.{Version, Cells, Descriptor}
 use Rattle.xa_types.specs.declared.setup.Setup.{Setup}
-use Rattle.xa_types.specs.declared.fault.Fault.TheVariants.{NoEnt, IType, Limit}
+use Rattle.xa_types.specs.declared.fault.Fault.TheVariants.{NoEnt, IType, Limit, BadDesc}
 use Rattle.xa_events.specs.Answers.{answer_to}
 use Rattle.xa_frame.specs.Spelling.{IsAnswer}
 use Rattle.xa_events.specs.Cases.{queue_by}
 use Rattle.xa_events.specs.Caller.{version_in, is_client}
 use Rattle.xa_cell.specs.Views.{at}
 use Rattle.xa_cell.specs.Known.{known}
-use Rattle.xa_cell.specs.Calls.{TookAs}
+use Rattle.xa_cell.specs.Calls.{TookAs, CancelledAs}
+use Rattle.xa_cell.specs.declared.owner.Cancelled.{Cancelled}
+use Rattle.xa_events.specs.Cases.{is_numbered}
 use Rattle.xa_cell.specs.Changes.{looked}
 use Rattle.xa_cell.specs.declared.cells.Cells.{Cells as CellsOf}
 use Rattle.xa_cell.specs.declared.tokens.Seat.{Seat}
@@ -32,7 +34,7 @@ use Rattle.xa_cell.specs.declared.view.View.{View}
 use Rattle.xa_cell.specs.Calls.{Began, AllTaken}
 use Rattle.xa_worker.specs.declared.work.Halt.{Halt}
 use Rattle.xa_worker.specs.declared.work.Halt.TheVariants.{Worn}
-use Rattle.xa_worker.specs.Work.{WorkState, noted, seeing, HaltsAt}
+use Rattle.xa_worker.specs.Work.{WorkState, noted, noted_here, seeing, HaltsAt}
 use Rattle.xa_caller.specs.declared.cargo.Filling.{Filling}
 use Rattle.xa_caller.specs.declared.phase.Open.{Open}
 use Rattle.xa_caller.specs.declared.phase.Draft.{Draft}
@@ -42,7 +44,7 @@ use Rattle.xa_caller.specs.declared.outcomes.Stop.{Stop}
 use Rattle.xa_caller.specs.declared.outcomes.Stop.TheVariants as stops
 use Rattle.xa_caller.specs.declared.outcomes.Step.{Step}
 use Rattle.xa_caller.specs.declared.outcomes.Step.TheVariants as steps
-use Rattle.xa_caller.specs.Phases.{least_by}
+use Rattle.xa_caller.specs.Phases.{least_by, request_of}
 use Rattle.xa_caller.specs.Drafts.{accepted_by, entry_by}
 use Rattle.xa_caller.specs.Caller.{CallerState, room_to_send}
 
@@ -69,11 +71,17 @@ SetsPriority op absolute amount stamp new old = Notes stamp (Priority (record { 
 
 -- ---- leave
 
--- a client leaves with the next stamp, or, where memory or stamps came to their end, without an event; the caller of a server leaves without one
-abbrev pub LeavesAs : Option Halt → WorkState → WorkState → Type 0
-LeavesAs None new old = ((is_client old.clients old.id.0 ≡ true) × ((stamp : Stamp) × (stamp.0 ≡ old.stamp.0 + 1) × (new ≡ noted (record { stamp = stamp; event = Leave old.id }) old)))
+-- descriptors are given up, one after the other, and no call asks for it
+abbrev pub GivesUp : List Open → WorkState → WorkState → Type 0
+GivesUp [] new old = new ≡ old
+GivesUp (o ∷ os) new old = (stamp : Stamp) × (stamp.0 ≡ old.stamp.0 + 1) × GivesUp os new (noted_here (record { stamp = stamp; event = Cancel (record { by = old.id; op = 0; request = o.request }) }) old)
+
+-- a client gives up what is out, in ascending order, and leaves with the next stamp, or, where memory or stamps came to their end, without that event, and
+-- maybe some of those before; the caller of a server leaves without one
+abbrev pub LeavesAs : List Open → Option Halt → WorkState → WorkState → Type 0
+LeavesAs out None new old = ((is_client old.clients old.id.0 ≡ true) × ((left : WorkState) × GivesUp out left old × ((stamp : Stamp) × (stamp.0 ≡ left.stamp.0 + 1) × (new ≡ noted (record { stamp = stamp; event = Leave old.id }) left))))
     ⊎ ((is_client old.clients old.id.0 ≡ false) × (new ≡ old))
-LeavesAs (Some halt) new old = (is_client old.clients old.id.0 ≡ true) × HaltsAt old.stamp halt × (new ≡ old)
+LeavesAs out (Some halt) new old = (is_client old.clients old.id.0 ≡ true) × ((given : List Open) × (rest : List Open) × (out ≡ given ++ rest) × GivesUp given new old × HaltsAt new.stamp halt)
 
 -- what the seat took and filled stands, and it filled no more
 pub record FillsNoMore (v w : View Filling) : Type 0 where
@@ -92,7 +100,7 @@ pub record Prepares (setup : Setup) (cells : CellsOf Filling) (op : ℕ) (payloa
   pub drafted : draft.event.value ≡ prepared.event
   pub entry : prepared.entry ≡ entry_by (record { caller = old.work.id; number = old.sent + 1 }) row old.priority payload prepared.entry.cargo.ticket
   pub began : Began cells (record { caller = old.work.id; number = old.sent + 1 }) old.seat new.seat draft.asked.place prepared.entry.cargo.ticket
-  pub made : new ≡ record old { work = record old.work { room = max old.work.room room_to_send }; seat = new.seat; phase = Prepared draft }
+  pub made : new ≡ record old { work = record old.work { room = max old.work.room (length old.out + room_to_send) }; seat = new.seat; phase = Prepared draft }
 
 abbrev pub stop : Result Stamp Halt → Stop
 stop (Ok stamp) = stops.Refused stamp
@@ -108,14 +116,20 @@ TurnsDown op found (stops.Halt halt) new old = HaltsAt old.work.stamp halt × (n
 pub record Limits (op : ℕ) (stamp : Stamp) (new old : CallerState) : Type 0 where
   pub seat : Seat Filling
   pub taken : AllTaken old.seat seat
-  pub refuses : Refuses op Limit (Cells old.seat.count) stamp new (record old { work = record old.work { room = max old.work.room room_to_send }; seat = seat })
+  pub refuses : Refuses op Limit (Cells old.seat.count) stamp new (record old { work = record old.work { room = max old.work.room (length old.out + room_to_send) }; seat = seat })
+
+-- nothing changes but that all cells were looked at
+pub record LooksOver (new old : CallerState) : Type 0 where
+  pub seat : Seat Filling
+  pub taken : AllTaken old.seat seat
+  pub made : new ≡ record old { work = record old.work { room = max old.work.room (length old.out + room_to_send) }; seat = seat }
 
 -- why no request is made: no row that was found takes the kind of the data, or else all cells are in use, or memory or stamps came to their end
 abbrev pub StopsAs : Setup → ℕ → Data → FoundRows → Stop → CallerState → CallerState → Type 0
 StopsAs setup op payload found (stops.Refused stamp) new old =
     ((find (λ (row : Row). is_accepted setup row.accepts (kind_of payload)) found.rows ≡ None) × TurnsDown op found (stops.Refused stamp) new old)
     ⊎ (IsSome (find (λ (row : Row). is_accepted setup row.accepts (kind_of payload)) found.rows) × Limits op stamp new old)
-StopsAs setup op payload found (stops.Halt halt) new old = HaltsAt old.work.stamp halt × (new ≡ old)
+StopsAs setup op payload found (stops.Halt halt) new old = HaltsAt old.work.stamp halt × ((new ≡ old) ⊎ LooksOver new old)
 
 -- ---- changed
 
@@ -147,13 +161,19 @@ pub record Sends (stamp : Stamp) (new old : CallerState) : Type 0 where
   pub was : old.phase ≡ Prepared draft
   pub made : new ≡ record old { work = noted (record { stamp = stamp; event = draft.event.value }) old.work; op = draft.op; sent = old.sent + 1; least = draft.version; priority = None; phase = Sent draft.asked }
 
+-- the same of a tpacall: the request is out
+pub record SendsApart (stamp : Stamp) (new old : CallerState) : Type 0 where
+  pub draft : Draft
+  pub was : old.phase ≡ Prepared draft
+  pub made : new ≡ record old { work = noted (record { stamp = stamp; event = draft.event.value }) old.work; op = draft.op; sent = old.sent + 1; least = draft.version; priority = None; out = old.out ++ draft.asked ∷ []; phase = Idle }
+
 -- ---- reply
 
 -- the answer was taken from the cell, and the caller is told it, in room that was made when the request was sent; it has a spelling
 pub record Answers (expect : Option Kind) (stamp : Stamp) (new old : CallerState) : Type 0 where
   pub sent : Open
   pub was : old.phase ≡ Sent sent
-  pub room : room_to_send ≤ old.work.room
+  pub room : length old.out + room_to_send ≤ old.work.room
   pub asked : (at sent.place.cell (known old.seat)).asked ≡ sent.request ∷ []
   pub filling : Filling
   pub reply : Reply
@@ -190,3 +210,37 @@ StepsAs expect (steps.Told stamp) new old = Answers expect stamp new old
 StepsAs expect steps.Wait new old = (sent : Open) × (old.phase ≡ Sent sent) × (known new.seat ≡ looked sent.place.cell 1 (known old.seat)) × (new ≡ record old { seat = new.seat })
 StepsAs expect (steps.Halt halt) new old = Loses halt new old
 StepsAs expect steps.Halted new old = Abandons new old
+
+-- ---- reply, cancel
+
+-- the answer of a request that is out was taken from its cell, and the caller is told it by that call, in room that was made for it; it has a spelling
+pub record Fetches (op : ℕ) (expect : Option Kind) (front : List Open) (sent : Open) (back : List Open) (stamp : Stamp) (new old : CallerState) : Type 0 where
+  pub was : old.out ≡ front ++ sent ∷ back
+  pub asked : (at sent.place.cell (known old.seat)).asked ≡ sent.request ∷ []
+  pub filling : Filling
+  pub reply : Reply
+  pub says : filling.answer ≡ Some reply
+  pub sound : IsAnswer (answer_to expect reply)
+  pub took : TookAs sent.place.cell filling (known old.seat) (known new.seat)
+  pub noted : Notes stamp (Answer (record { by = old.work.id; op = op; request = sent.request; answer = answer_to expect reply }))
+      (record old { work = record (seeing filling.stamp old.work) { room = old.work.room - 1 }; seat = new.seat; op = op; out = front ++ back }) new
+
+-- a descriptor is given up, by that call
+pub record Cancels (op : ℕ) (front : List Open) (sent : Open) (back : List Open) (stamp : Stamp) (new old : CallerState) : Type 0 where
+  pub was : old.out ≡ front ++ sent ∷ back
+  pub noted : Notes stamp (Cancel (record { by = old.work.id; op = op; request = sent.request })) (record old { work = record old.work { room = old.work.room - 1 }; seat = new.seat; op = op; out = front ++ back }) new
+  pub cancelled : (answer : Cancelled Filling) × CancelledAs sent.place.cell (known old.seat) (known new.seat) answer
+
+-- that of the request at that place, counted from 0
+abbrev pub CancelsAt : ℕ → ℕ → Stamp → CallerState → CallerState → Type 0
+CancelsAt op place stamp new old = (front : List Open) × (sent : Open) × (back : List Open) × (slice_get old.out place ≡ Some sent) × Cancels op front sent back stamp new old
+
+-- the descriptor isn't open
+abbrev pub NotOpen : ℕ → ℕ → CallerState → Type 0
+NotOpen op descriptor old = is_numbered descriptor (map request_of old.out) ≡ false
+
+-- what a tpcancel comes to
+abbrev pub CancelsAs : ℕ → ℕ → Result Stamp Halt → CallerState → CallerState → Type 0
+CancelsAs op descriptor (Ok stamp) new old = (NotOpen op descriptor old × Refuses op BadDesc (Descriptor descriptor) stamp new old)
+    ⊎ ((front : List Open) × (sent : Open) × (back : List Open) × (sent.request.number ≡ descriptor) × Cancels op front sent back stamp new old)
+CancelsAs op descriptor (Err halt) new old = HaltsAt old.work.stamp halt × (new ≡ old)

@@ -1,7 +1,9 @@
 pub mod Phases
 pub mod Drafts
+pub mod Descriptors
 pub mod Caller
 pub mod Changes
+pub mod Getting
 pub mod Kept
 pub mod Serving
 pub mod Sound

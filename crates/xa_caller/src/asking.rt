@@ -47,7 +47,7 @@ pub(crate) fn stop(refused: Result<Stamp, Halt>) -> Stop
     }
 }
 
-fn step(refused: Result<Stamp, Halt>) -> Step
+pub(crate) fn step(refused: Result<Stamp, Halt>) -> Step
     ensures { result ≡ step refused }
 {
     match refused {

@@ -1,5 +1,5 @@
 // The caller.
-ghost use Rattle.std.specs.Prelude.{◌≡◌, ℕ, ◌+◌, ◌≤◌, ◌<◌, ◌^◌, true, false, max, [], None, Some, IfOk, IfErr, IfSome, OnOk, OnErr};
+ghost use Rattle.std.specs.Prelude.{◌≡◌, ℕ, ◌+◌, ◌≤◌, ◌<◌, ◌^◌, true, false, length, max, [], None, Some, IfOk, IfErr, IfSome, OnOk, OnErr};
 ghost use Rattle.std.specs.List.{find, filter};
 ghost use Rattle.xa_types.specs.Configured.{is_configured};
 ghost use Rattle.xa_events.specs.Calls.{is_invalid_call};
@@ -24,13 +24,13 @@ ghost use Rattle.xa_caller.specs.declared.phase.Phase.TheVariants as phases;
 ghost use Rattle.xa_worker.specs.Work.{HaltsAt, seeing, theirs};
 ghost use Rattle.xa_stamp.specs.Home.{last_stamp, Rises};
 ghost use Rattle.xa_worker.specs.Crew.{no_stamp, stands_at};
-ghost use Rattle.xa_cell.specs.Places.{OpenAre};
 ghost use Rattle.xa_caller.specs.Changes.{FillsNoMore, IsChangeBy, changed_by, ticked_by};
-ghost use Rattle.xa_caller.specs.Phases.{places_in};
 
 use crate::asking::stop;
 use crate::cargo::{Cargo, Filling};
 use crate::choosing::first_row;
+use crate::descriptors::Descriptors;
+use crate::leaving::{depart, drop_all, give_up};
 use crate::outcomes::{Note, Prepared, Step, Stop};
 use crate::phase::{Draft, Open, Phase};
 use crate::telling::told;
@@ -39,7 +39,9 @@ use std::marker::Model;
 use std::mem;
 use std::snapshot::Snapshot;
 use xa_cell::{Cells, Look, Seat, Ticket};
-use xa_events::{Accepted, Event, Evidence, Prioritized, Refused, Replied, Ticked};
+use xa_events::{
+    Accepted, Cancelled as CancelledRequest, Event, Evidence, Prioritized, Refused, Replied, Ticked,
+};
 use xa_held::Invocation;
 use xa_queue::Entry;
 use xa_route::priority;
@@ -68,6 +70,7 @@ pub struct Caller {
     pub(crate) least: u64,
     // What it set for the priority of its next request: absolute, or to be added to the service's own.
     pub(crate) priority: Option<(bool, i32)>,
+    pub(crate) out: Descriptors,
     pub(crate) phase: Phase,
 }
 
@@ -255,37 +258,17 @@ fn sent_in(phase: Phase) -> Open
     }
 }
 
-// The cell of a request that is out is given up.
-fn give_up(cells: &Cells<Filling>, seat: &mut Seat<Filling>, phase: Phase)
-    requires cells { IsSeatOf cells.now seat.old }
-    requires open_ { OpenAre (places_in phase) (known seat.old) }
-    requires out { IsPrepared phase → ⊥ }
-    ensures cells { SameSeat cells.now seat.old seat.new }
-    ensures filled { FillsNoMore (known seat.old) (known seat.new) }
-    ensures shut { IsShut seat.new }
-{
-    match phase {
-        Phase::Sent(open) => {
-            let Open { request: _, place } = open;
-            drop(cells.cancel(seat, place));
-        }
-        Phase::Idle => {}
-        Phase::Lost(_) => {}
-        _ => unreachable!(),
-    }
-}
-
 impl Caller {
     ghost use Rattle.xa_caller.specs.Caller.{IsSound, MayCall, AreRowsOf};
-    ghost use Rattle.xa_caller.specs.Changes.{Refuses, SetsPriority, Prepares, StopsAs, TurnsDown, Sends, StepsAs, LeavesAs};
+    ghost use Rattle.xa_caller.specs.Changes.{Refuses, SetsPriority, Prepares, StopsAs, TurnsDown, Sends, SendsApart, StepsAs, CancelsAt, CancelsAs, LeavesAs};
 
     /// A caller that has noted nothing. It reads no version of the board before `least`, which the boot had made.
-    pub fn new(work: Work, seat: Seat<Filling>, least: u64) -> Caller
+    pub fn new(alloc: Global, work: Work, seat: Seat<Filling>, least: u64) -> Caller
         requires work { work.own ≡ [] }
         requires seat { IsNew seat.first seat.count (known seat) }
         requires least { boot work.setup ≤ least }
         requires cells { seat.count ≡ descriptor_limit work.clients work.id.0 }
-        ensures { result ≡ record { work = work; seat = seat; op = 0; sent = 0; least = least; priority = None; phase = phases.Idle } }
+        ensures { result ≡ record { work = work; seat = seat; op = 0; sent = 0; least = least; priority = None; out = []; phase = phases.Idle } }
     {
         Caller {
             work,
@@ -294,6 +277,7 @@ impl Caller {
             sent: 0,
             least,
             priority: None,
+            out: Descriptors::new(alloc),
             phase: Phase::Idle,
         }
     }
@@ -313,6 +297,14 @@ impl Caller {
     {
         let _itself = self.work.stamp();
         self.op
+    }
+
+    /// The number of its last request that was accepted, which is its descriptor, or 0 where none was.
+    pub fn last_request(&self) -> u64
+        ensures value { result ≡ self.now.sent }
+    {
+        let _itself = self.work.stamp();
+        self.sent
     }
 
     /// The greatest stamp that it noted or saw.
@@ -348,12 +340,23 @@ impl Caller {
         self.work.saw(stamp);
     }
 
-    /// Makes room for so many events at its own home, where there isn't already. Where it fails nothing changes.
+    /// Makes room for so many events at its own home, beside those of the requests that are out, where there isn't already.
+    /// Where it fails nothing changes.
     pub fn reserve(&mut self, more: u32) -> Result<(), NoMemory>
-        ensures ok { OnOk result (self.new ≡ record self.old { work = record self.old.work { room = max self.old.work.room more } }) }
+        requires { more ≤ 1000 }
+        ensures ok { OnOk result (self.new ≡ record self.old { work = record self.old.work { room = max self.old.work.room (length self.old.out + more) } }) }
         ensures kept { OnErr result (self.new ≡ self.old) }
     {
-        self.work.reserve(more)
+        let out = self.count();
+        self.work.reserve(out + more)
+    }
+
+    // How many requests are out.
+    fn count(&self) -> u32
+        ensures value { result ≡ length self.now.out }
+        ensures least { result ≤ 50 }
+    {
+        self.out.len() as u32
     }
 
     /// Its call is refused, by what shows that it is right.
@@ -433,7 +436,11 @@ impl Caller {
         let Ok(copies) = two_copies(alloc, &ask.payload) else {
             return Err(Stop::Halt(Halt::NoMemory));
         };
-        if self.work.reserve(ROOM_TO_SEND).is_err() {
+        let out = self.count();
+        if self.out.reserve().is_err() {
+            return Err(Stop::Halt(Halt::NoMemory));
+        }
+        if self.work.reserve(out + ROOM_TO_SEND).is_err() {
             return Err(Stop::Halt(Halt::NoMemory));
         }
         let request = self.next_request();
@@ -545,6 +552,81 @@ impl Caller {
         self.op = op;
     }
 
+    /// A queue accepted the request of a client's tpacall that was prepared, with that stamp. It is out then, and its number is
+    /// the descriptor.
+    pub fn sent_apart(&mut self, note: Note, stamp: Stamp) -> u64
+        requires client { is_client self.old.work.clients self.old.work.id.0 ≡ true }
+        requires active { MayCall self.old }
+        requires prepared { IsPrepared self.old.phase }
+        requires later { self.old.work.stamp.0 < stamp.0 }
+        requires bound { stamp.0 ≤ 2 ^ 63 }
+        ensures sends { SendsApart stamp self.new self.old }
+        ensures descriptor { result ≡ self.new.sent }
+    {
+        let Note { op: _ } = note;
+        let Draft {
+            asked,
+            op,
+            version,
+            event,
+        } = draft_in(take_out(&mut self.phase));
+        let descriptor = self.sent + 1;
+        self.work.noted(stamp, event);
+        self.op = op;
+        self.sent = descriptor;
+        self.least = version;
+        self.priority = None;
+        self.out.push(asked);
+        descriptor
+    }
+
+    /// Gives up a descriptor, whose answer is dropped. TPEBADDESC comes exactly where it isn't open.
+    pub fn cancel(
+        &mut self,
+        cells: &Cells<Filling>,
+        op: u32,
+        descriptor: u64,
+    ) -> Result<Stamp, Halt>
+        requires cells { IsSeatOf cells.now self.old.seat }
+        requires active { MayCall self.old }
+        requires idle { self.old.phase ≡ phases.Idle }
+        requires turn { op ≡ self.old.op + 1 }
+        ensures cancels { CancelsAs op descriptor result self.new self.old }
+        ensures cells { SameSeat cells.now self.old.seat self.new.seat }
+    {
+        let Some(place) = self.out.find(descriptor) else {
+            return self.refuse(op, Fault::BadDesc, Evidence::Descriptor(descriptor));
+        };
+        self.cancel_at(cells, op, place)
+    }
+
+    // Gives up the descriptor at that place.
+    fn cancel_at(&mut self, cells: &Cells<Filling>, op: u32, place: usize) -> Result<Stamp, Halt>
+        requires cells { IsSeatOf cells.now self.old.seat }
+        requires active { MayCall self.old }
+        requires idle { self.old.phase ≡ phases.Idle }
+        requires turn { op ≡ self.old.op + 1 }
+        requires place { place < length self.old.out }
+        ensures ok { IfOk result (λ stamp. CancelsAt op place stamp self.new self.old) }
+        ensures halted { IfErr result (HaltsAt self.old.work.stamp) }
+        ensures kept { OnErr result (self.new ≡ self.old) }
+        ensures cells { SameSeat cells.now self.old.seat self.new.seat }
+    {
+        let cancelled = CancelledRequest {
+            by: self.work.id(),
+            op,
+            request: self.out.get(place).request,
+        };
+        let stamp = match self.work.note(Event::Cancel(cancelled)) {
+            Ok(stamp) => stamp,
+            Err(worn) => return Err(Halt::Worn(worn.0)),
+        };
+        let Open { request: _, place } = self.out.take(place);
+        drop(cells.cancel(&mut self.seat, place));
+        self.op = op;
+        Ok(stamp)
+    }
+
     /// Looks for the answer to its request, and is told it where it has come. Where the cell was filled without an answer, since
     /// the run halts, nothing is noted.
     pub fn call_reply(&mut self, cells: &Cells<Filling>, expect: &Option<Kind>) -> Step
@@ -585,7 +667,7 @@ impl Caller {
         }
     }
 
-    /// The run halts: the cell of a request that is out is given up, and nothing is noted.
+    /// The run halts: the cells of all requests that are out are given up, and nothing is noted.
     pub fn abandon(self, cells: &Cells<Filling>) -> Left
         requires cells { IsSeatOf cells.now self.seat }
         requires out { IsPrepared self.phase → ⊥ }
@@ -602,9 +684,11 @@ impl Caller {
             sent: _,
             least: _,
             priority: _,
+            mut out,
             phase,
         } = self;
-        give_up(cells, &mut seat, phase);
+        give_up(cells, &mut seat, &mut out, phase);
+        out.end();
         Left {
             work,
             seat,
@@ -612,29 +696,31 @@ impl Caller {
         }
     }
 
-    /// It has made its last call. A client leaves with an event; the caller of a server notes none.
-    pub fn leave(self) -> Left
-        requires { self.phase ≡ phases.Idle }
-        ensures seat { (result.seat ≡ self.seat) × IsShut self.seat }
-        ensures work { LeavesAs result.halt result.work self.work }
+    /// It has made its last call, and gives up what is out. A client notes that, with an event for each, and that it leaves; the
+    /// caller of a server notes nothing. Where stamps come to their end before, the rest is given up without events.
+    pub fn leave(self, cells: &Cells<Filling>) -> Left
+        requires cells { IsSeatOf cells.now self.seat }
+        requires idle { self.phase ≡ phases.Idle }
+        ensures cells { SameSeat cells.now self.seat result.seat }
+        ensures filled { FillsNoMore (known self.seat) (known result.seat) }
+        ensures shut { IsShut result.seat }
+        ensures work { LeavesAs self.out result.halt result.work self.work }
         ensures sound { IsSound self }
     {
         let Caller {
             mut work,
-            seat,
+            mut seat,
             op: _,
             sent: _,
             least: _,
             priority: _,
+            mut out,
             phase,
         } = self;
         end(phase);
-        let halt = if work.is_client() {
-            let id = work.id();
-            work.note_anew(Event::Leave(id)).err()
-        } else {
-            None
-        };
+        let halt = depart(cells, &mut work, &mut seat, &mut out);
+        drop_all(cells, &mut seat, &mut out);
+        out.end();
         Left { work, seat, halt }
     }
 }

@@ -5,7 +5,10 @@ mod asking;
 mod caller;
 mod cargo;
 mod choosing;
+mod descriptors;
+mod getting;
 mod laws;
+mod leaving;
 mod outcomes;
 mod phase;
 mod serving;
@@ -58,8 +61,9 @@ pub mod stamp {
 
 pub mod types {
     pub use xa_types::{
-        Answer, Ask, CallerId, Data, Fault, Found, Generation, Kind, Name, NoMemory, Octets, Op,
-        QueueId, Reply, RequestId, Row, Rval, Sequence, ServerId, ServiceSetup, Setup, Stamp, Worn,
+        Answer, Ask, CallFlags, CallerId, Data, Fault, Found, Generation, Kind, Name, NoMemory,
+        Octets, Op, QueueId, Reply, RequestId, Row, Rval, Sequence, ServerId, ServiceSetup, Setup,
+        Stamp, Worn,
     };
 }
 

@@ -1,5 +1,5 @@
 // What the caller of a server notes of that server, and the cells that it fills.
-ghost use Rattle.std.specs.Prelude.{◌≡◌, ◌+◌, ◌≤◌, ◌<◌, ◌^◌, None, IfOk, IfErr, OnErr};
+ghost use Rattle.std.specs.Prelude.{◌≡◌, ◌+◌, ◌≤◌, ◌<◌, ◌^◌, length, None, IfOk, IfErr, OnErr};
 ghost use Rattle.xa_cell.specs.Known.{known, IsSeatOf, IsTicketOf, SameSeat};
 ghost use Rattle.xa_cell.specs.Calls.{FilledAs};
 ghost use Rattle.xa_worker.specs.Crew.{IsOfDomain};
@@ -42,7 +42,7 @@ impl Caller {
     /// Notes a start, a failed start, a stop, or the end of a request of its server at its own home, with the next stamp, in
     /// room that was reserved. `Worn` comes exactly where its stamp is 2^63, and then nothing changes.
     pub fn note(&mut self, event: Event) -> Result<Stamp, Worn>
-        requires room { 0 < self.old.work.room }
+        requires room { length self.old.out < self.old.work.room }
         requires idle { self.old.phase ≡ phases.Idle }
         requires kind { IsOfServer event }
         requires next { IsNext self.old.work event }

@@ -11,7 +11,7 @@ use Rattle.xa_desk.specs.xa_events.declared.event.Event.{Event}
 use Rattle.xa_desk.specs.xa_events.declared.event.Event.TheVariants.{Advertise, Withdraw}
 use Rattle.xa_desk.specs.xa_events.declared.event.Evidence.{Evidence}
 use Rattle.xa_desk.specs.xa_events.declared.event.Evidence.TheVariants.{Role, Argument, Routine, Rows, NoRow}
-use Rattle.xa_desk.specs.xa_events.Caller.{version_in, tick_of}
+use Rattle.xa_desk.specs.xa_events.Caller.{version_in}
 use Rattle.xa_desk.specs.xa_events.Said.{is_op, refusal_reply}
 use Rattle.xa_desk.specs.xa_stamp.declared.home.Stamped.{Stamped}
 use Rattle.xa_desk.specs.xa_worker.Work.{theirs}
@@ -92,13 +92,13 @@ module _ (d : Domain) (op : ℕ) (old new : Desk) where
 
   -- ---- it was refused
 
-  -- such a refusal names no version, no queue and no tick, and is told as its error
-  no_names : (fault : Fault) (evidence : Evidence) → IsChangeRefusal fault evidence → IfSome (version_in evidence) (LookShowed old new) × IfSome (full_shown evidence) (SawFull d old new) × (refusal_reply fault evidence ≡ replies.Fault fault) × (tick_of evidence ≡ None)
-  no_names Proto Role is = (tt, tt, refl, refl)
-  no_names Inval Argument is = (tt, tt, refl, refl)
-  no_names Match (Routine found) is = (tt, tt, refl, refl)
-  no_names Limit (Rows n) is = (tt, tt, refl, refl)
-  no_names NoEnt NoRow is = (tt, tt, refl, refl)
+  -- such a refusal names no version and no queue, and is told as its error
+  no_names : (fault : Fault) (evidence : Evidence) → IsChangeRefusal fault evidence → IfSome (version_in evidence) (LookShowed old new) × IfSome (full_shown evidence) (SawFull d old new) × (refusal_reply fault evidence ≡ replies.Fault fault)
+  no_names Proto Role is = (tt, tt, refl)
+  no_names Inval Argument is = (tt, tt, refl)
+  no_names Match (Routine found) is = (tt, tt, refl)
+  no_names Limit (Rows n) is = (tt, tt, refl)
+  no_names NoEnt NoRow is = (tt, tt, refl)
   no_names _ _ is = absurd is
 
   module _ (mid : CallerState) (seen : HasSeen mid old.caller) (fault : Fault) (evidence : Evidence) (stamp : Stamp) (refuses : Refuses op fault evidence stamp new.caller mid) (names : IfSome (version_in evidence) (LookShowed old new) × IfSome (full_shown evidence) (SawFull d old new)) where
@@ -145,7 +145,7 @@ module _ (d : Domain) (op : ℕ) (old new : Desk) where
   change_left (Some fault) (mid, seen, evidence, stamp, told) = let names = no_names fault evidence told.1 in refused_left mid seen fault evidence stamp told.0 (names.0, names.1)
 
   refusal_one : (mid : CallerState) → HasSeen mid old.caller → (fault : Fault) (evidence : Evidence) (stamp : Stamp) → Refuses op fault evidence stamp new.caller mid → IsChangeRefusal fault evidence → 0 < op → (one : NotesOne op Closes old new) × (told_of one.noted.event ≡ tells.Fault fault)
-  refusal_one mid seen fault evidence stamp refuses is above = let names = no_names fault evidence is in let one = refused_one mid seen fault evidence stamp refuses (names.0, names.1) Closes (names.2, names.3) above in (one.0, ap told_of one.1)
+  refusal_one mid seen fault evidence stamp refuses is above = let names = no_names fault evidence is in let one = refused_one mid seen fault evidence stamp refuses (names.0, names.1) Closes names.2 above in (one.0, ap told_of one.1)
 
   pub change_told : (told : Option Fault) → 0 < op → ChangesAs op told new.caller old.caller → IsSame old new → IsTold (told_by_error told) op old new
   change_told None above (stamp, version, event, by, made) same = told_changed op old new same (changed_one stamp version event by made above)

@@ -5,3 +5,4 @@ pub mod Noting
 pub mod Trying
 pub mod Changed
 pub mod Ticked
+pub mod Given

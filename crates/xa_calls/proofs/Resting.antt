@@ -1,5 +1,5 @@
 -- What a client's calls noted rests on looks.
-use Rattle.std.proofs.Common.{◌≡◌, ℕ, ℤ, ◌≤◌, Bool, true, false, max, List, [], ◌∷◌, ◌++◌, append-nil, append_assoc, Option, Some, None, Result, Ok, Err, inl, inr, refl, sym, ◌∙◌, ap, subst, arith}
+use Rattle.std.proofs.Common.{◌≡◌, ℕ, ℤ, ◌+◌, ◌≤◌, Bool, true, false, max, length, List, [], ◌∷◌, ◌++◌, append-nil, append_assoc, Option, Some, None, Result, Ok, Err, inl, inr, refl, sym, ◌∙◌, ap, subst, arith}
 use Rattle.std.specs.Prelude.{IfSome, IfOk, OnErr}
 use Rattle.std.proofs.lemmas.List.Elements.{All-nil, All-cons, All-append, All-weaker}
 use Rattle.xa_desk.specs.xa_types.declared.data.Data.{Data}
@@ -101,8 +101,9 @@ stopped_noted Full setup op payload found (stops.Refused stamp) old new (inl non
   | inl rows ↦ refused_noted (λ version. version ≡ found.version) Full op NoEnt (Version found.version) stamp old new refl tt rows.1
   | inr rows ↦ refused_noted (λ version. version ≡ found.version) Full op IType (Version found.version) stamp old new refl tt rows.1
 ]
-stopped_noted Full setup op payload found (stops.Refused stamp) old new (inr full) = refused_noted (λ version. version ≡ found.version) Full op Limit (Cells old.seat.count) stamp (record old { work = record old.work { room = max old.work.room room_to_send }; seat = full.1.seat }) new tt tt full.1.refuses
-stopped_noted Full setup op payload found (stops.Halt halt) old new halts = noted_none (λ version. version ≡ found.version) Full old.work.own new.work.own (ap (λ (c : CallerState). c.work.own) halts.1)
+stopped_noted Full setup op payload found (stops.Refused stamp) old new (inr full) = refused_noted (λ version. version ≡ found.version) Full op Limit (Cells old.seat.count) stamp (record old { work = record old.work { room = max old.work.room (length old.out + room_to_send) }; seat = full.1.seat }) new tt tt full.1.refuses
+stopped_noted Full setup op payload found (stops.Halt halt) old new (halts, inl kept) = noted_none (λ version. version ≡ found.version) Full old.work.own new.work.own (ap (λ (c : CallerState). c.work.own) kept)
+stopped_noted Full setup op payload found (stops.Halt halt) old new (halts, inr over) = noted_none (λ version. version ≡ found.version) Full old.work.own new.work.own (ap (λ (c : CallerState). c.work.own) over.made)
 
 -- and of one that no queue took, for that reason
 pub unsent_noted : (draft : Draft) (why : Why) (no_block : Bool) (step : Step) (new left : CallerState) → EndsAs draft.op (refused_for draft why no_block) (other_step why) step new left
@@ -129,7 +130,7 @@ pub same_work : (old new left : WorkState) → new ≡ left → left.id ≡ old.
 same_work old new left is id clients room = subst (SameWork old) (sym is) (id, clients, room)
 
 pub same_desk : (old new : Desk) → SameWork old.caller.work new.caller.work → IsSame old new
-same_desk old new same = record { id = same.0; clients = same.1; room = same.2 }
+same_desk old new same = record { id = same.0; clients = same.1; room = λ server had. same.2 had }
 
 -- the work is as it was, but for what was noted and seen
 pub same_by : (old new : Desk) (left : WorkState) → new.caller.work ≡ left → left.id ≡ old.caller.work.id → left.clients ≡ old.caller.work.clients → left.room ≡ old.caller.work.room → IsSame old new

@@ -53,7 +53,9 @@ stopped_fills setup op payload found (stops.Refused stamp) old new (inl (none, i
 stopped_fills setup op payload found (stops.Refused stamp) old new (inl (none, inr (some, refuses))) = seat_fills old new (ap (λ (c : CallerState). c.seat) refuses.made)
 stopped_fills setup op payload found (stops.Refused stamp) old new (inr (some, limits)) =
     keeps_fills old new (subst (λ (s : Seat Filling). Keeps (known old.caller.seat) (known s)) (sym (ap (λ (c : CallerState). c.seat) limits.refuses.made)) (full_keeps old.caller.seat limits.seat limits.taken))
-stopped_fills setup op payload found (stops.Halt halt) old new halts = seat_fills old new (ap (λ (c : CallerState). c.seat) halts.1)
+stopped_fills setup op payload found (stops.Halt halt) old new (halts, inl kept) = seat_fills old new (ap (λ (c : CallerState). c.seat) kept)
+stopped_fills setup op payload found (stops.Halt halt) old new (halts, inr over) =
+    keeps_fills old new (subst (λ (s : Seat Filling). Keeps (known old.caller.seat) (known s)) (sym (ap (λ (c : CallerState). c.seat) over.made)) (full_keeps old.caller.seat over.seat over.taken))
 
 ends_seat : (op : ℕ) (refused : Option (Fault × Evidence)) (other step : Step) (new left : CallerState) → EndsAs op refused other step new left → new.seat ≡ left.seat
 ends_seat op (Some (fault, evidence)) other (steps.Told stamp) new left ends = ap (λ (c : CallerState). c.seat) ends.made

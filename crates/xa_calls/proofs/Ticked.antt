@@ -10,7 +10,7 @@ use Rattle.xa_desk.specs.xa_types.declared.stamp.Stamp.{Stamp}
 use Rattle.xa_desk.specs.xa_types.declared.reply.Reply.TheVariants as replies
 use Rattle.xa_desk.specs.xa_events.declared.event.Evidence.{Evidence}
 use Rattle.xa_desk.specs.xa_events.declared.event.Evidence.TheVariants.{Role, Clock}
-use Rattle.xa_desk.specs.xa_events.Caller.{version_in, tick_of as tick_named, tick_in, is_client}
+use Rattle.xa_desk.specs.xa_events.Caller.{version_in, is_client}
 use Rattle.xa_desk.specs.xa_events.Said.{refusal_reply}
 use Rattle.xa_desk.specs.xa_worker.Work.{theirs}
 use Rattle.xa_desk.specs.xa_caller.Caller.{CallerState, MayCall}
@@ -57,25 +57,12 @@ module _ (d : Domain) (op : ℕ) (old new : Desk) where
   no_names mid _ _ is = absurd is
 
   -- a server's refusal names no tick
-  no_tick : (mid : CallerState) (fault : Fault) (evidence : Evidence) → IsTickRefusal mid fault evidence → is_client mid.work.clients mid.work.id.0 ≡ false → tick_named evidence ≡ None
-  no_tick mid Proto Role is server = refl
-  no_tick mid Limit (Clock tick) is server = absurd (cc (sym server ∙ is))
-  no_tick mid _ _ is server = absurd is
-
-  seen_server : (mid : CallerState) → HasSeen mid old.caller → is_client old.caller.work.clients old.caller.work.id.0 ≡ false → is_client mid.work.clients mid.work.id.0 ≡ false
-  seen_server mid (inl still) server = ap (λ (c : CallerState). is_client c.work.clients c.work.id.0) still ∙ server
-  seen_server mid (inr (seen, made)) server = ap (λ (c : CallerState). is_client c.work.clients c.work.id.0) made ∙ server
-
   module _ (mid : CallerState) (seen : HasSeen mid old.caller) (fault : Fault) (evidence : Evidence) (stamp : Stamp) (told : RefusesTick op fault evidence stamp new.caller mid) where
     stopped_left : Left d op old new
     stopped_left = let names = no_names mid fault evidence told.1 in refused_left d op old new mid seen fault evidence stamp told.0 (names.0, names.1)
 
     stopped_one : 0 < op → (one : NotesOne op (RefusesWith fault) old new) × (one.noted.event ≡ refused op fault evidence mid)
     stopped_one above = let names = no_names mid fault evidence told.1 in refused_one d op old new mid seen fault evidence stamp told.0 (names.0, names.1) (RefusesWith fault) names.2 above
-
-    stopped_tickless : (above : 0 < op) → is_client old.caller.work.clients old.caller.work.id.0 ≡ false → tick_in old.caller.work.clients old.caller.work.id.0 (refused op fault evidence mid) ≡ None
-    stopped_tickless above server =
-        elim (cases_Bool (mid.work.id.0 == old.caller.work.id.0)) [ inl its ↦ rw its (no_tick mid fault evidence told.1 (seen_server mid seen server)) | inr another ↦ rw another refl ]
 
   -- ---- either
 
@@ -85,7 +72,7 @@ module _ (d : Domain) (op : ℕ) (old new : Desk) where
 
   pub tick_told : (told : Result ℕ Fault) → 0 < op → TicksAs op told new.caller old.caller → IsSame old new → IsTold (told_by_clock told) op old new
   tick_told (Ok tick) above (client, stamp, made) same = told_ticked op tick old new same client (ticked_one stamp tick made above)
-  tick_told (Err fault) above (mid, seen, evidence, stamp, told) same = let one = stopped_one mid seen fault evidence stamp told above in told_stopped op fault old new same one.0 (λ server. ap (tick_in old.caller.work.clients old.caller.work.id.0) one.1 ∙ stopped_tickless mid seen fault evidence stamp told above server)
+  tick_told (Err fault) above (mid, seen, evidence, stamp, told) same = let one = stopped_one mid seen fault evidence stamp told above in told_stopped op fault old new same one.0
 
   pub tick_active : (told : Result ℕ Fault) → 0 < op → TicksAs op told new.caller old.caller → IsSame old new → MayCall old.caller → MayCall new.caller
   tick_active (Ok tick) above (client, stamp, made) same = may_on op (Ticks tick) old new same (ticked_one stamp tick made above)

@@ -1,5 +1,6 @@
 -- A request that goes from queue to queue.
 use Rattle.std.proofs.Common.{◌≡◌, ◌⊎◌, ℕ, ◌+◌, ◌<◌, ◌≤◌, Bool, true, List, take, length, Option, Some, None, Result, Ok, Err, inl, inr, refl, sym, ◌∙◌, ap, subst, arith}
+use Rattle.xa_desk.specs.xa_worker.Work.{WorkState}
 use Rattle.std.specs.Prelude.{IfSome, slice_get, get_or}
 use Rattle.std.specs.List.{All, Contains}
 use Rattle.std.proofs.lemmas.List.{take_all, take-take}
@@ -8,7 +9,6 @@ use Rattle.std.proofs.lemmas.Option.{slice_get_cases, slice_get_within, get_or_f
 use Rattle.xa_desk.specs.xa_types.declared.call.Ask.{Ask}
 use Rattle.xa_desk.specs.xa_types.declared.data.Data.{Data}
 use Rattle.xa_desk.specs.xa_types.declared.fault.Fault.{Fault}
-use Rattle.xa_desk.specs.xa_types.declared.ids.CallerId.{CallerId}
 use Rattle.xa_desk.specs.xa_types.declared.ids.QueueId.{QueueId}
 use Rattle.xa_desk.specs.xa_types.declared.row.Row.{Row}
 use Rattle.xa_desk.specs.xa_types.declared.stamp.Stamp.{Stamp}
@@ -16,7 +16,6 @@ use Rattle.xa_desk.specs.xa_types.Found.{FoundRows}
 use Rattle.xa_desk.specs.xa_types.Setup.{capacity_of}
 use Rattle.xa_desk.specs.xa_events.declared.event.Event.{Event}
 use Rattle.xa_desk.specs.xa_events.declared.event.Evidence.{Evidence}
-use Rattle.xa_desk.specs.xa_events.Caller.{op_in}
 use Rattle.xa_desk.specs.xa_events.Calls.{IsShutOut}
 use Rattle.xa_desk.specs.xa_events.Homes.Home.{QueueHome}
 use Rattle.xa_desk.specs.xa_events.Queue.{is_down, is_closed, waiting}
@@ -33,7 +32,6 @@ use Rattle.xa_desk.specs.xa_caller.declared.phase.Draft.{Draft}
 use Rattle.xa_desk.specs.xa_caller.declared.phase.Phase.{Phase}
 use Rattle.xa_desk.specs.xa_caller.declared.phase.Phase.TheVariants.{Idle, Prepared}
 use Rattle.xa_desk.specs.xa_caller.Caller.{CallerState, MayCall}
-use Rattle.xa_desk.specs.xa_caller.Changes.{Sends}
 use Rattle.xa_desk.specs.xa_caller.Drafts.{Cargo}
 use Rattle.xa_desk.specs.xa_caller.Unsent.{AimsAs, EndsAs, UnsentAs, refused_for, other_step}
 use Rattle.xa_desk.specs.declared.domain.Domain.{Domain}
@@ -42,16 +40,16 @@ use Rattle.xa_desk.specs.declared.stopped.Stopped.{Stopped}
 use Rattle.xa_calls.specs.declared.sending.Tried.{Tried}
 use Rattle.xa_desk.specs.Whole.{entries_of}
 use Rattle.xa_desk.specs.Desks.{Leads}
-use Rattle.xa_desk.specs.Found.{SawAtQueue, SawItsOwnAt, HasFound, IsAimed, ShowsWhy, queue_in}
+use Rattle.xa_desk.specs.Found.{SawAtQueue, SawItsOwnAt, HasFound, IsAimed, ShowsWhy, queue_in, next_request}
 use Rattle.xa_desk.specs.Serving.{Sees}
-use Rattle.xa_desk.specs.Steps.{FitsOn, NoneTakes, IsWhy, full_in}
+use Rattle.xa_desk.specs.Steps.{FitsOn, NoneTakes, IsWhy, full_in, FitsOp, SentBy, WantsReply, ask_by}
 use Rattle.xa_desk.proofs.Preparing.{weaker_front}
-use Rattle.xa_desk.proofs.Sending.{same_draft}
+use Rattle.xa_desk.proofs.Sending.{same_draft, SentSo, sent_so}
 use Rattle.xa_desk.proofs.Staying.{queue_stays, itself_stays, found_stays, aimed_stays}
 use Rattle.xa_calls.specs.Resting.{RestsOn}
 use Rattle.xa_calls.specs.Going.{IsSame, GoesBy, TriesBy}
-use Rattle.xa_calls.specs.Sending.{IsBy, IsItsOwn, IsOn, IsTried, NoneTook, full_by, why_of}
-use Rattle.xa_calls.specs.Telling.{NotesOne, Accepts, TriedNotes}
+use Rattle.xa_calls.specs.Sending.{IsBy, IsOn, IsTried, NoneTook, full_by, why_of}
+use Rattle.xa_calls.specs.Telling.{NotesOne, TriedNotes, AcceptsAs}
 use Rattle.xa_calls.proofs.Going.{goes_trans, sees_on}
 use Rattle.xa_calls.proofs.Resting.{noted_one, noted_weaker, unsent_noted, SameWork, same_work, same_desk, same_by}
 use Rattle.xa_calls.proofs.Seating.{seat_fills}
@@ -81,23 +79,23 @@ record IsStill (old new : Desk) : Type 0 where
   own : new.caller.work.own ≡ old.caller.work.own
   seat : new.caller.seat ≡ old.caller.seat
 
-module _ (d : Domain) (ask : Ask) (first : Desk) where
+module _ (d : Domain) (apart : Bool) (ask : Ask) (first : Desk) where
   -- ---- the way of the worker
 
-  pub ends_on : (desk end : Desk) → IsOn d ask first desk → GoesBy d (desk.caller.op + 1) ask desk end → GoesBy d (first.caller.op + 1) ask first end
-  ends_on desk end on goes = goes_trans d ask (first.caller.op + 1) first desk end on.goes (subst (λ (n : ℕ). GoesBy d (n + 1) ask desk end) on.op goes)
+  pub ends_on : (desk end : Desk) → IsOn d apart ask first desk → GoesBy d (desk.caller.op + 1) apart ask desk end → GoesBy d (first.caller.op + 1) apart ask first end
+  ends_on desk end on goes = goes_trans d apart ask (first.caller.op + 1) first desk end on.goes (subst (λ (n : ℕ). GoesBy d (n + 1) apart ask desk end) on.op goes)
 
-  pub sends_on : (desk new : Desk) (stamp : Stamp) → IsOn d ask first desk → Leads d desk new → FitsOn d (desk.caller.op + 1) ask desk new → Sends stamp new.caller desk.caller → GoesBy d (first.caller.op + 1) ask first new
+  pub sends_on : (desk new : Desk) (stamp : Stamp) → IsOn d apart ask first desk → Leads d desk new → FitsOp d (desk.caller.op + 1) (ask_by apart ask) desk new → SentBy apart stamp new.caller desk.caller → GoesBy d (first.caller.op + 1) apart ask first new
   sends_on desk new stamp on leads fits sends = ends_on desk new on (record {
     leads = leads;
     fits = fits;
-    same = same_by desk new _ (ap (λ (c : CallerState). c.work) sends.made) refl refl refl;
-    fills = seat_fills desk new (ap (λ (c : CallerState). c.seat) sends.made);
+    same = same_by desk new _ (sent_so apart stamp new.caller desk.caller sends).work refl refl refl;
+    fills = seat_fills desk new (sent_so apart stamp new.caller desk.caller sends).seat;
   })
 
-  pub back_on : (desk new : Desk) → IsOn d ask first desk → Leads d desk new → Sees desk.caller new.caller → new.reader ≡ desk.reader → new.board ≡ desk.board → IsOn d ask first new
+  pub back_on : (desk new : Desk) → IsOn d apart ask first desk → Leads d desk new → Sees desk.caller new.caller → new.reader ≡ desk.reader → new.board ≡ desk.board → IsOn d apart ask first new
   back_on desk new on leads sees reader board = record {
-    goes = ends_on desk new on (sees_on d ask (desk.caller.op + 1) desk new leads sees);
+    goes = ends_on desk new on (sees_on d apart ask (desk.caller.op + 1) desk new leads sees);
     op = ap (λ (c : CallerState). c.op) sees.1 ∙ on.op;
     quiet = ap (λ (c : CallerState). c.work.own) sees.1 ∙ on.quiet;
     reader = reader ∙ on.reader;
@@ -105,36 +103,36 @@ module _ (d : Domain) (ask : Ask) (first : Desk) where
   }
 
   -- what is noted now is all that the way noted
-  pub tries_on : (Full Full' : QueueId × ℕ → Type 0) (desk end : Desk) → IsOn d ask first desk → ((one : QueueId × ℕ) → Full one → Full' one) → TriesBy Full desk end → TriesBy Full' first end
+  pub tries_on : (Full Full' : QueueId × ℕ → Type 0) (desk end : Desk) → IsOn d apart ask first desk → ((one : QueueId × ℕ) → Full one → Full' one) → TriesBy Full desk end → TriesBy Full' first end
   tries_on Full Full' desk end on fills tries = record {
     board = tries.board ∙ on.board;
     found = noted_weaker (λ (v : ℕ). v ≡ desk.reader.found.version) (λ (v : ℕ). v ≡ first.reader.found.version) Full Full' (λ v is. is ∙ ap (λ r. r.found.version) on.reader) fills desk.caller.work.own first.caller.work.own end.caller.work.own (sym on.quiet) tries.found;
   }
 
   -- the request was accepted by what was found
-  pub sent_tries : (Full : QueueId × ℕ → Type 0) (entry : Entry Cargo) (event : Event) (stamp : Stamp) (desk new : Desk) → IsOn d ask first desk → IsAimed d desk.reader.found ask.payload entry event desk → Sends stamp new.caller desk.caller → new.board ≡ desk.board → TriesBy Full first new
-  sent_tries Full entry event stamp desk new on aimed sends board =
+  pub sent_tries : (Full : QueueId × ℕ → Type 0) (entry : Entry Cargo) (event : Event) (stamp : Stamp) (desk new : Desk) → IsOn d apart ask first desk → IsAimed d desk.reader.found ask.payload entry event desk → SentBy apart stamp new.caller desk.caller → new.board ≡ desk.board → TriesBy Full first new
+  sent_tries Full entry event stamp desk new on aimed sent board =
+      let sends = sent_so apart stamp new.caller desk.caller sent in
       let draft = sends.draft in
       let said : draft.event.value ≡ event = ap (λ (draft : Draft). draft.event.value) (same_draft draft aimed.draft desk.caller.phase sends.was aimed.prepared) ∙ aimed.drafted in
       let shown : ℕ → Type 0 = λ v. v ≡ desk.reader.found.version in
       tries_on Full Full desk new on (λ one is. is) (record {
         board = board;
-        found = noted_one shown Full desk.caller.work.own new.caller.work.own (record { stamp = stamp; event = draft.event.value }) (ap (λ (c : CallerState). c.work.own) sends.made) (subst (RestsOn shown Full) (sym (said ∙ aimed.event_is)) (refl, tt));
+        found = noted_one shown Full desk.caller.work.own new.caller.work.own (record { stamp = stamp; event = draft.event.value }) (ap (λ (w : WorkState). w.own) sends.work) (subst (RestsOn shown Full) (sym (said ∙ aimed.event_is)) (refl, tt));
       })
 
   -- what it may do, and what was noted so far
-  pub on_may : (desk : Desk) → IsOn d ask first desk → MayCall first.caller → MayCall desk.caller
+  pub on_may : (desk : Desk) → IsOn d apart ask first desk → MayCall first.caller → MayCall desk.caller
   on_may desk on may = may_still first desk on.goes.same on.quiet may
 
-  pub ends_notes : (desk end : Desk) (result : Result Tried Stopped) → IsOn d ask first desk → TriedNotes (desk.caller.op + 1) result desk end → TriedNotes (first.caller.op + 1) result first end
+  pub ends_notes : (desk end : Desk) (result : Result Tried Stopped) → IsOn d apart ask first desk → TriedNotes (desk.caller.op + 1) result desk end → TriedNotes (first.caller.op + 1) result first end
   ends_notes desk end result on notes = quiet_tried (first.caller.op + 1) result first desk end on.goes.same on.quiet (subst (λ (n : ℕ). TriedNotes (n + 1) result desk end) on.op notes)
 
-  pub sends_notes : (found : FoundRows) (entry : Entry Cargo) (event : Event) (stamp : Stamp) (desk new : Desk) → IsOn d ask first desk → IsAimed d found ask.payload entry event desk → IsItsOwn first.caller.work.id event → Sends stamp new.caller desk.caller
-      → NotesOne (first.caller.op + 1) Accepts first new
-  sends_notes found entry event stamp desk new on aimed its sends =
-      let turn : aimed.draft.op ≡ first.caller.op + 1 = aimed.turn ∙ ap (λ (n : ℕ). n + 1) on.op in
-      quiet_one (first.caller.op + 1) Accepts first desk new on.goes.same on.quiet
-      (sends_one (first.caller.op + 1) stamp aimed.draft event desk new (omega arith) aimed.prepared aimed.drafted (ap op_in aimed.event_is ∙ turn) (subst (λ (i : CallerId). IsItsOwn i event) (sym on.goes.same.id) its) sends)
+  pub sends_notes : (found : FoundRows) (entry : Entry Cargo) (event : Event) (stamp : Stamp) (desk new : Desk) → IsOn d apart ask first desk → IsAimed d found ask.payload entry event desk → SentBy apart stamp new.caller desk.caller
+      → NotesOne (first.caller.op + 1) (AcceptsAs new.caller.sent) first new
+  sends_notes found entry event stamp desk new on aimed sent =
+      quiet_one (first.caller.op + 1) (AcceptsAs new.caller.sent) first desk new on.goes.same on.quiet
+      (sends_one d found ask.payload entry event apart (first.caller.op + 1) stamp desk new (omega arith) aimed (aimed.turn ∙ ap (λ (n : ℕ). n + 1) on.op) sent)
 
 -- no queue took it
 pub unsent_tries : (d : Domain) (payload : Data) (cell : ℕ) (why : Why) (no_block : Bool) (step : Step) (entry : Entry Cargo) (event : Event) (old new : Desk) → IsAimed d old.reader.found payload entry event old → UnsentAs cell why no_block step new.caller old.caller → new ≡ record old { caller = new.caller }
@@ -146,16 +144,6 @@ unsent_tries d payload cell why no_block step entry event old new aimed unsent r
       found = noted_weaker (λ (v : ℕ). v ≡ unsent.draft.version) (λ (v : ℕ). v ≡ old.reader.found.version) (λ one. full_in why ≡ Some one) (λ one. full_in why ≡ Some one) (λ v is. is ∙ version) (λ one is. is) old.caller.work.own old.caller.work.own new.caller.work.own refl
           (unsent_noted unsent.draft why no_block step new.caller (record old.caller { seat = unsent.seat; phase = Idle }) unsent.ends);
     }
-
--- aimed anew it is the same caller's
-pub aimed_its : (d : Domain) (found : FoundRows) (payload : Data) (caller : CallerId) (rows : List Row) (attempt : ℕ) (entry one : Entry Cargo) (event at : Event) (old new : Desk)
-    → AimsAs entry rows attempt (aims.At one at) new.caller old.caller → IsAimed d found payload entry event old → IsItsOwn caller event → IsItsOwn caller at
-aimed_its d found payload caller rows attempt entry one event at old new is aimed its =
-    subst (IsItsOwn caller) (sym is.2.accepted) (ap (requester caller) (sym is.2.was ∙ aimed.prepared) ∙ subst (IsItsOwn caller) aimed.event_is its)
-  where
-    requester : CallerId → Phase → CallerId
-    requester default (Prepared draft) = draft.asked.request.caller
-    requester default phase = default
 
 aimed_still : (entry : Entry Cargo) (rows : List Row) (attempt : ℕ) (aimed : Aimed) (old new : Desk) → AimsAs entry rows attempt aimed new.caller old.caller → IsStill old new
 aimed_still entry rows attempt (aims.At one event) old new is = let made = is.2.made in record { same = same_by old new _ (ap (λ (c : CallerState). c.work) made) refl refl refl; op = ap (λ (c : CallerState). c.op) made; own = ap (λ (c : CallerState). c.work.own) made; seat = ap (λ (c : CallerState). c.seat) made }
@@ -252,7 +240,7 @@ past_why d found n full desk row has is none = by_full full (record {
     by_full None takes = takes
     by_full (Some one) takes = takes
 
-module _ (d : Domain) (ask : Ask) (old new : Desk) (leads : Leads d old new) where
+module _ (d : Domain) (apart : Bool) (ask : Ask) (wants : WantsReply apart ask) (old new : Desk) (leads : Leads d old new) where
   -- ---- a queue refused the request
 
   module _ (sees : Sees old.caller new.caller) (reader : new.reader ≡ old.reader) where
@@ -268,7 +256,7 @@ module _ (d : Domain) (ask : Ask) (old new : Desk) (leads : Leads d old new) whe
     pub aimed_back : (entry back : Entry Cargo) (event : Event) → back ≡ entry → IsAimed d old.reader.found ask.payload entry event old → IsAimed d new.reader.found ask.payload back event new
     aimed_back entry back event is aimed =
         subst (λ (f : FoundRows). IsAimed d f ask.payload back event new) (sym (ap (λ r. r.found) reader))
-        (subst (λ (e : Entry Cargo). IsAimed d old.reader.found ask.payload e event new) (sym is) (aimed_stays d old.reader.found ask.payload entry event old new (ap (λ (c : CallerState). c.phase) sees.1) (ap (λ (c : CallerState). c.op) sees.1) (ap (λ (c : CallerState). c.priority) sees.1) aimed))
+        (subst (λ (e : Entry Cargo). IsAimed d old.reader.found ask.payload e event new) (sym is) (aimed_stays d old.reader.found ask.payload entry event old new (ap (λ (c : CallerState). c.phase) sees.1) (ap (λ (c : CallerState). c.op) sees.1) (ap (λ (c : CallerState). c.priority) sees.1) (ap next_request sees.1) aimed))
 
     pub tried_back : (entry back : Entry Cargo) (event : Event) (attempt n : ℕ) (full full' : Option (QueueId × ℕ)) (queue : QueueId) (why : Refusal) → new.board ≡ old.board → back ≡ entry → queue.0 ≡ queue_in event → ShowsWhy d (queue_in event) why new
         → full_by queue why full ≡ Ok full' → n ≤ attempt + 1 → IsBy old.reader.found attempt event → IsTried d ask attempt full entry event old → IsTried d ask n full' back event new
@@ -289,11 +277,11 @@ module _ (d : Domain) (ask : Ask) (old new : Desk) (leads : Leads d old new) whe
     same_found : new.reader.found ≡ old.reader.found
     same_found = ap (λ (desk : Desk). desk.reader.found) rest
 
-    pub aimed_on : (first : Desk) → ((op : ℕ) (ask : Ask) → FitsOn d op ask old new) → IsOn d ask first old → IsOn d ask first new
+    pub aimed_on : (first : Desk) → ((op : ℕ) (ask : Ask) → FitsOn d op ask old new) → IsOn d apart ask first old → IsOn d apart ask first new
     aimed_on first fits on =
         let still = aimed_still entry old.reader.found.rows attempt aimed old new aims_as in
         record {
-          goes = ends_on d ask first old new on (record { leads = leads; fits = fits (old.caller.op + 1) ask; same = still.same; fills = seat_fills old new still.seat });
+          goes = ends_on d apart ask first old new on (record { leads = leads; fits = fits (old.caller.op + 1) ask apart wants; same = still.same; fills = seat_fills old new still.seat });
           op = still.op ∙ on.op;
           quiet = still.own ∙ on.quiet;
           reader = ap (λ (desk : Desk). desk.reader) rest ∙ on.reader;

@@ -1,9 +1,12 @@
 -- What a caller's calls leave at its desk (this project's own).
-use Rattle.std.specs.Prelude.{◌≡◌, ℕ, ◌+◌, ◌≤◌, Bool, true, false, Result, Ok, Err}
+use Rattle.std.specs.Prelude.{◌≡◌, ℕ, ◌+◌, ◌≤◌, Bool, true, false, Option, Some, None, Result, Ok, Err}
 use Rattle.xa_desk.specs.xa_types.declared.call.Ask.{Ask}
+use Rattle.xa_desk.specs.xa_types.declared.call.CallFlags.{CallFlags}
 use Rattle.xa_desk.specs.xa_types.declared.call.Op.{Op}
-use Rattle.xa_desk.specs.xa_types.declared.call.Op.TheVariants.{Call, Priority, Advertise, Unadvertise, Tick}
+use Rattle.xa_desk.specs.xa_types.declared.call.Op.TheVariants.{Call, Acall, Get, GetAny, Cancel, Priority, Advertise, Unadvertise, Tick}
+use Rattle.xa_desk.specs.xa_types.declared.data.Kind.{Kind}
 use Rattle.xa_desk.specs.xa_types.declared.ids.QueueId.{QueueId}
+use Rattle.xa_desk.specs.xa_events.Caller.{is_client}
 use Rattle.xa_desk.specs.xa_lock.Pages.{StartsWith}
 use Rattle.xa_desk.specs.xa_cell.Changes.{looked}
 use Rattle.xa_desk.specs.xa_cell.Known.{known}
@@ -22,7 +25,7 @@ use Rattle.xa_desk.specs.declared.stopped.Stopped.TheVariants as ends
 use Rattle.xa_desk.specs.Desks.{IsDesk, Leads, board_page}
 use Rattle.xa_desk.specs.Halting.{IsStopAt}
 use Rattle.xa_desk.specs.Looks.{LookShowed}
-use Rattle.xa_desk.specs.Steps.{FitsOn, FitsOp}
+use Rattle.xa_desk.specs.Steps.{FitsOp, ask_by}
 use Rattle.xa_calls.specs.Resting.{NotedOn, SawFull}
 use Rattle.xa_calls.specs.declared.sending.Tried.{Tried}
 use Rattle.xa_calls.specs.declared.sending.Tried.TheVariants as attempts
@@ -51,20 +54,20 @@ IsStopped desk stopped = IsOut desk × IsStopAt desk stopped
 
 -- ---- how it goes on
 
--- the desk is the same worker's, with room for the two events that end a server's life, where it had that
+-- the desk is the same worker's, a server's with room for the two events that end a life, where it had that
 pub record IsSame (old new : Desk) : Type 0 where
   pub id : new.caller.work.id ≡ old.caller.work.id
   pub clients : new.caller.work.clients ≡ old.caller.work.clients
-  pub room : 2 ≤ old.caller.work.room → 2 ≤ new.caller.work.room
+  pub room : is_client old.caller.work.clients old.caller.work.id.0 ≡ false → 2 ≤ old.caller.work.room → 2 ≤ new.caller.work.room
 
 -- its seat filled no cell
 abbrev pub FillsNone : Desk → Desk → Type 0
 FillsNone old new = (k : ℕ) → (at k (known new.caller.seat)).filled ≡ (at k (known old.caller.seat)).filled
 
--- the worker went on by its tpcall with that number, of which each event that it noted is one
-pub record GoesBy (d : Domain) (number : ℕ) (ask : Ask) (old new : Desk) : Type 0 where
+-- the worker went on by its tpacall or tpcall with that number, of which each event that it noted is one
+pub record GoesBy (d : Domain) (number : ℕ) (apart : Bool) (ask : Ask) (old new : Desk) : Type 0 where
   pub leads : Leads d old new
-  pub fits : FitsOn d number ask old new
+  pub fits : FitsOp d number (ask_by apart ask) old new
   pub same : IsSame old new
   pub fills : FillsNone old new
 
@@ -96,18 +99,29 @@ ToldAs d op (Ok true) desk = IsReady d op desk
 ToldAs d op (Ok false) desk = IsWaiting d op desk
 ToldAs d op (Err stopped) desk = IsStopped desk stopped
 
+-- behind the request of its call with that number: a tpacall is over, and the answer of a tpcall is still to come
+abbrev pub IsSentBy : Bool → Domain → ℕ → Desk → Type 0
+IsSentBy true d op desk = IsReady d op desk
+IsSentBy false d op desk = IsWaiting d op desk
+
 -- what an attempt to send leaves: the request is out, or the call was refused, or nothing was sent, since all queues that are up are full
-abbrev pub TriedAs : Domain → ℕ → Result Tried Stopped → Desk → Type 0
-TriedAs d op (Ok attempts.Sent) desk = IsWaiting d op desk
-TriedAs d op (Ok attempts.Refused) desk = IsReady d op desk
-TriedAs d op (Ok attempts.Full) desk = (before : ℕ) × (before + 1 ≡ op) × IsReady d before desk
-TriedAs d op (Err stopped) desk = IsStopped desk stopped
+abbrev pub TriedAs : Bool → Domain → ℕ → Result Tried Stopped → Desk → Type 0
+TriedAs apart d op (Ok attempts.Sent) desk = IsSentBy apart d op desk
+TriedAs apart d op (Ok attempts.Refused) desk = IsReady d op desk
+TriedAs apart d op (Ok attempts.Full) desk = (before : ℕ) × (before + 1 ≡ op) × IsReady d before desk
+TriedAs apart d op (Err stopped) desk = IsStopped desk stopped
 
 -- what sending comes to: the request is out, or the call was refused
-abbrev pub SentAs : Domain → ℕ → Result Bool Stopped → Desk → Type 0
-SentAs d op (Ok true) desk = IsWaiting d op desk
-SentAs d op (Ok false) desk = IsReady d op desk
-SentAs d op (Err stopped) desk = IsStopped desk stopped
+abbrev pub SentAs : Bool → Domain → ℕ → Result Bool Stopped → Desk → Type 0
+SentAs apart d op (Ok true) desk = IsSentBy apart d op desk
+SentAs apart d op (Ok false) desk = IsReady d op desk
+SentAs apart d op (Err stopped) desk = IsStopped desk stopped
+
+-- what looks for the answers of descriptors leave: the call with that number is over, or there is none so far
+abbrev pub GotAs : Domain → ℕ → ℕ → Result Bool Stopped → Desk → Type 0
+GotAs d before op (Ok true) desk = IsReady d op desk
+GotAs d before op (Ok false) desk = IsReady d before desk
+GotAs d before op (Err stopped) desk = IsStopped desk stopped
 
 -- ---- what one outcome says by another
 
@@ -129,11 +143,21 @@ refused_by (stops.Halt halt) = Err (ends.Here halt)
 
 -- ---- its calls
 
--- a tpcall, a call that sets the priority of the next request, or one that would change the board or the clock
-abbrev pub IsCall : Op → Type 0
-IsCall (Call ask) = Unit {0}
-IsCall (Priority absolute amount) = Unit {0}
-IsCall (Advertise service routine) = Unit {0}
-IsCall (Unadvertise service) = Unit {0}
-IsCall (Tick n) = Unit {0}
-IsCall op = ⊥
+-- a tpcall, a client's tpacall that wants a reply, a tpgetrply or a tpcancel, a call that sets the priority of the next request, or one that would change
+-- the board or the clock
+abbrev pub IsCall : Bool → Op → Type 0
+IsCall client (Call ask) = Unit {0}
+IsCall client (Acall ask) = (client ≡ true) × (ask.flags.no_reply ≡ false)
+IsCall client (Get descriptor flags expect) = Unit {0}
+IsCall client (GetAny flags expect) = Unit {0}
+IsCall client (Cancel descriptor) = Unit {0}
+IsCall client (Priority absolute amount) = Unit {0}
+IsCall client (Advertise service routine) = Unit {0}
+IsCall client (Unadvertise service) = Unit {0}
+IsCall client (Tick n) = Unit {0}
+IsCall client op = ⊥
+
+-- a tpgetrply of that descriptor, or of any
+abbrev pub get_by : Option ℕ → CallFlags → Option Kind → Op
+get_by (Some descriptor) flags expect = Get descriptor flags expect
+get_by None flags expect = GetAny flags expect

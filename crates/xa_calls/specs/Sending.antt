@@ -1,5 +1,5 @@
 -- How a caller's request goes from queue to queue (XATMI, TPESYSTEM and TPEBLOCK of tpcall; their order is this project's own).
-use Rattle.std.specs.Prelude.{◌≡◌, ◌⊎◌, ℕ, ◌+◌, ◌<◌, true, List, take, length, Option, Some, None, IfSome, Result, Ok, Err, slice_get}
+use Rattle.std.specs.Prelude.{◌≡◌, ◌⊎◌, ℕ, ◌+◌, ◌<◌, true, List, take, length, Option, Some, None, IfSome, Result, Ok, Err, slice_get, Bool}
 use Rattle.std.specs.List.{All, Contains}
 use Rattle.xa_desk.specs.xa_types.declared.call.Ask.{Ask}
 use Rattle.xa_desk.specs.xa_types.declared.ids.CallerId.{CallerId}
@@ -42,11 +42,6 @@ full_by queue refusals.NoMemory full = Err halts.NoMemory
 abbrev pub IsBy : FoundRows → ℕ → Event → Type 0
 IsBy found attempt event = (row : Row) × (slice_get found.rows attempt ≡ Some row) × (row.queue.0 ≡ queue_in event)
 
--- the event accepts a request of that caller
-abbrev pub IsItsOwn : CallerId → Event → Type 0
-IsItsOwn caller (Accept a) = a.by ≡ caller
-IsItsOwn caller e = ⊥
-
 -- the queues of the rows that were tried took nothing: as NoneTakes says of all rows
 pub record NoneTook (d : Domain) (rows tried : List Row) (full : Option (QueueId × ℕ)) (desk : Desk) : Type 0 where
   pub out : All (λ (row : Row). SawItsOwnAt d row.queue.0 desk (IsShutOut d.setup row.queue.0)) tried
@@ -61,8 +56,8 @@ pub record IsTried (d : Domain) (ask : Ask) (tried : ℕ) (full : Option (QueueI
   pub none : NoneTook d desk.reader.found.rows (take tried desk.reader.found.rows) full desk
 
 -- the worker has made the call's request, and noted nothing and looked at the board no more
-pub record IsOn (d : Domain) (ask : Ask) (first desk : Desk) : Type 0 where
-  pub goes : GoesBy d (first.caller.op + 1) ask first desk
+pub record IsOn (d : Domain) (apart : Bool) (ask : Ask) (first desk : Desk) : Type 0 where
+  pub goes : GoesBy d (first.caller.op + 1) apart ask first desk
   pub op : desk.caller.op ≡ first.caller.op
   pub quiet : IsQuiet first desk
   pub reader : desk.reader ≡ first.reader

@@ -1,13 +1,15 @@
 -- What the worker notes of one call, and what its caller is told (XATMI, tpcall; that a server's program is told by a frame is this project's own).
 use Rattle.std.specs.Prelude.{◌≡◌, ◌⊎◌, ℕ, Bool, true, false, List, [], ◌∷◌, ◌++◌, Option, Some, None, Result, Ok, Err}
 use Rattle.std.specs.List.{All}
+use Rattle.xa_desk.specs.xa_types.declared.call.Mode.TheVariants.{Reply}
 use Rattle.xa_desk.specs.xa_types.declared.fault.Fault.{Fault}
+use Rattle.xa_desk.specs.xa_types.declared.fault.Fault.TheVariants.{Block}
 use Rattle.xa_desk.specs.xa_types.declared.reply.Reply.TheVariants as replies
 use Rattle.xa_desk.specs.xa_events.declared.event.Event.{Event}
-use Rattle.xa_desk.specs.xa_events.declared.event.Event.TheVariants.{Advertise, Withdraw, Answer, Refuse, Priority, Tick}
+use Rattle.xa_desk.specs.xa_events.declared.event.Event.TheVariants.{Advertise, Withdraw, Accept, Answer, Cancel, NotYet, Refuse, Priority, Tick}
 use Rattle.xa_desk.specs.xa_events.declared.event.Replied.{Replied}
-use Rattle.xa_desk.specs.xa_events.Caller.{last_op, tick_of, tick_in, is_client}
-use Rattle.xa_desk.specs.xa_events.Said.{is_op, reply_at, refusal_reply}
+use Rattle.xa_desk.specs.xa_events.Caller.{last_op, is_client}
+use Rattle.xa_desk.specs.xa_events.Said.{is_op, reply_at, refusal_reply, descriptor_of}
 use Rattle.xa_desk.specs.xa_frame.Spelling.{IsAnswer}
 use Rattle.xa_desk.specs.xa_stamp.declared.home.Stamped.{Stamped}
 use Rattle.xa_desk.specs.xa_worker.Seen.{past_in}
@@ -41,23 +43,36 @@ pub record NotesOne (number : ℕ) (P : Event → List Event → Type 0) (old ne
 abbrev pub Accepts : Event → List Event → Type 0
 Accepts e before = is_accept e ≡ true
 
--- the call is over: it is refused, by what names no tick, or done, or its own request is answered, by what has a spelling
+-- with that number, and wants a reply
+abbrev pub AcceptsAs : ℕ → Event → List Event → Type 0
+AcceptsAs n (Accept a) before = (a.request.number ≡ n) × (a.mode ≡ Reply)
+AcceptsAs n e before = ⊥
+
+-- the call is over: it is refused, or done, or its own request is answered, by what has a spelling
 abbrev pub Closes : Event → List Event → Type 0
-Closes (Refuse r) before = (refusal_reply r.fault r.evidence ≡ replies.Fault r.fault) × (tick_of r.evidence ≡ None)
+Closes (Refuse r) before = refusal_reply r.fault r.evidence ≡ replies.Fault r.fault
 Closes (Priority p) before = Unit {0}
 Closes (Answer a) before = (last_op a.by.0 before ≡ a.op) × IsAnswer a.answer
 Closes e before = ⊥
 
+-- a tpgetrply or a tpcancel is over: it is refused, or given an answer that has a spelling, or has none so far; or done
+abbrev pub Gives : Event → List Event → Type 0
+Gives (Refuse r) before = refusal_reply r.fault r.evidence ≡ replies.Fault r.fault
+Gives (Answer a) before = (descriptor_of a before ≡ a.request.number) × IsAnswer a.answer
+Gives (NotYet n) before = Unit {0}
+Gives (Cancel c) before = Unit {0}
+Gives e before = ⊥
+
 -- what an attempt to send notes: the accept, or the refusal, or nothing; and nothing of it stands where it failed
 abbrev pub TriedNotes : ℕ → Result Tried Stopped → Desk → Desk → Type 0
-TriedNotes op (Ok attempts.Sent) old new = NotesOne op Accepts old new
+TriedNotes op (Ok attempts.Sent) old new = NotesOne op (AcceptsAs new.caller.sent) old new
 TriedNotes op (Ok attempts.Refused) old new = NotesOne op Closes old new
 TriedNotes op (Ok attempts.Full) old new = IsQuiet old new
 TriedNotes op (Err stopped) old new = IsQuiet old new × (new.caller.phase ≡ Idle)
 
 -- so it is with sending
 abbrev pub SentNotes : ℕ → Result Bool Stopped → Desk → Desk → Type 0
-SentNotes op (Ok true) old new = NotesOne op Accepts old new
+SentNotes op (Ok true) old new = NotesOne op (AcceptsAs new.caller.sent) old new
 SentNotes op (Ok false) old new = NotesOne op Closes old new
 SentNotes op (Err stopped) old new = IsQuiet old new × (new.caller.phase ≡ Idle)
 
@@ -97,12 +112,25 @@ abbrev pub StoppedIn : ℕ → Stopped → Desk → Desk → Type 0
 StoppedIn op (ends.Here NoMemory) old new = IsQuiet old new × (new.caller.phase ≡ Idle)
 StoppedIn op stopped old new = IsQuiet old new ⊎ NotesOne op Accepts old new
 
+-- a look for the answers of descriptors notes what comes of the call, or nothing
+abbrev pub GotNotes : ℕ → Result Bool Stopped → Desk → Desk → Type 0
+GotNotes op (Ok true) old new = NotesOne op Gives old new
+GotNotes op (Ok false) old new = IsQuiet old new
+GotNotes op (Err stopped) old new = StoppedIn op stopped old new
+
 -- ---- what is told
 
 abbrev pub told_of : Event → Told
 told_of (Refuse r) = tells.Fault r.fault
-told_of (Answer a) = tells.Answered
+told_of (Answer a) = tells.Answered 0
 told_of e = tells.Done
+
+-- by a tpgetrply or a tpcancel
+abbrev pub given_of : Event → Told
+given_of (Refuse r) = tells.Fault r.fault
+given_of (NotYet n) = tells.Fault Block
+given_of (Answer a) = tells.Answered a.request.number
+given_of e = tells.Done
 
 abbrev pub told_by_clock : Result ℕ Fault → Told
 told_by_clock (Ok tick) = tells.Now tick
@@ -117,13 +145,16 @@ abbrev pub Says : Told → ℕ → ℕ → List Event → Type 0
 Says tells.Done number caller past = reply_at past caller number ≡ replies.Done
 Says (tells.Fault fault) number caller past = reply_at past caller number ≡ replies.Fault fault
 Says (tells.Now tick) number caller past = reply_at past caller number ≡ replies.Now tick
-Says tells.Answered number caller past = (a : Replied) × (older : List Event) × (past ≡ Answer a ∷ older) × (reply_at past caller number ≡ replies.Answered 0 a.answer) × IsAnswer a.answer
+Says (tells.Descriptor descriptor) number caller past = reply_at past caller number ≡ replies.Descriptor descriptor
+Says (tells.Answered descriptor) number caller past = (a : Replied) × (older : List Event) × (past ≡ Answer a ∷ older) × (reply_at past caller number ≡ replies.Answered descriptor a.answer) × IsAnswer a.answer
 
-abbrev pub IsNow : Told → Type 0
-IsNow (tells.Now tick) = Unit {0}
-IsNow told = ⊥
+-- a client alone is told that
+abbrev pub IsForClients : Told → Type 0
+IsForClients (tells.Now tick) = Unit {0}
+IsForClients (tells.Descriptor descriptor) = Unit {0}
+IsForClients told = ⊥
 
--- all that the worker noted is this one call, of which no event of a server names a tick, and its caller is told what that says; a server isn't told a tick
+-- all that the worker noted is this one call, and its caller is told what that says; a server isn't told a tick or a descriptor
 pub record IsTold (told : Told) (number : ℕ) (old new : Desk) : Type 0 where
   pub more : List Event
   pub noted : theirs new.caller.work ≡ more ++ theirs old.caller.work
@@ -131,6 +162,5 @@ pub record IsTold (told : Told) (number : ℕ) (old new : Desk) : Type 0 where
   pub own : new.caller.work.own ≡ old.caller.work.own ++ added
   pub events : past_in added ≡ more
   pub call : AreCall old.caller.work.id.0 number more
-  pub ticks : is_client old.caller.work.clients old.caller.work.id.0 ≡ false → All (λ (e : Event). tick_in old.caller.work.clients old.caller.work.id.0 e ≡ None) more
-  pub clock : is_client old.caller.work.clients old.caller.work.id.0 ≡ false → IsNow told → ⊥
+  pub own_kind : is_client old.caller.work.clients old.caller.work.id.0 ≡ false → IsForClients told → ⊥
   pub says : Says told number new.caller.work.id.0 (theirs new.caller.work)

@@ -1,6 +1,7 @@
 // A caller makes a call.
 ghost use Rattle.std.specs.Prelude.{◌≡◌, ◌+◌, ◌<◌, false, Ok, OnOk, IfOk, IfErr};
-ghost use Rattle.xa_desk.specs.xa_types.declared.call.Op.TheVariants.{Call, Priority, Tick};
+ghost use Rattle.xa_desk.specs.xa_types.declared.call.Op.TheVariants.{Call, Acall, Priority, Tick};
+ghost use Rattle.xa_desk.specs.xa_events.Caller.{is_client};
 ghost use Rattle.xa_desk.specs.xa_events.Said.{is_op};
 ghost use Rattle.xa_desk.specs.xa_events.Words.{count};
 ghost use Rattle.xa_desk.specs.xa_worker.Work.{theirs};
@@ -10,6 +11,7 @@ ghost use Rattle.xa_desk.specs.xa_caller.Caller.{MayCall};
 ghost use Rattle.xa_calls.specs.Going.{IsReady, IsWaiting, IsStopped, PerformsBy, FoundPending, ToldAs, IsCall, told_by};
 ghost use Rattle.xa_calls.specs.Telling.{IsQuiet, IsNoWant, NotesOne, Closes, LookNotes, NotesCall, StoppedIn, IsTold};
 
+use crate::getting::{Wanted, cancel, get};
 use crate::sending::{refused_by, send};
 use crate::telling::{Told, told_at, told_by_clock, told_by_error};
 use std::sync::Wait;
@@ -18,7 +20,7 @@ use xa_desk::link::{Gate, Point, stay};
 use xa_desk::types::{Ask, Op};
 use xa_desk::{Desk, Domain, Monitor, Stopped};
 
-fn told_by(step: Step) -> Result<bool, Stopped>
+pub(crate) fn told_by(step: Step) -> Result<bool, Stopped>
     ensures { result ≡ told_by step }
 {
     match step {
@@ -105,10 +107,42 @@ fn call<W: Wait, G>(
             return Ok(());
         }
     };
-    if send(monitor, desk, op, ask, &service)? {
+    if send(monitor, desk, op, ask, &service, false)? {
         return await_reply(monitor, desk, ask);
     }
     Ok(())
+}
+
+// A client's tpacall.
+fn acall<W: Wait, G>(
+    monitor: &Monitor<'_, W, G>,
+    desk: &mut Desk,
+    op: u32,
+    ask: &Ask,
+) -> Result<Told, Stopped>
+    requires domain { IsDomain monitor.now.domain.now }
+    requires ready { IsReady monitor.now.domain.now desk.old.caller.op desk.old }
+    requires active { MayCall desk.old.caller }
+    requires turn { op ≡ desk.old.caller.op + 1 }
+    requires kind { IsCall (is_client desk.old.caller.work.clients desk.old.caller.work.id.0) (Acall ask.now) }
+    ensures goes { PerformsBy monitor.now.domain.now op (Acall ask.now) desk.old desk.new }
+    ensures active { MayCall desk.new.caller }
+    ensures made { OnOk result (IsReady monitor.now.domain.now op desk.new) }
+    ensures stopped { IfErr result (IsStopped desk.new) }
+    ensures told { IfOk result (λ told. IsTold told op desk.old desk.new) }
+    ensures within { IfErr result (λ stopped. StoppedIn op stopped desk.old desk.new) }
+{
+    let service = match desk.check(monitor.domain, op, ask) {
+        Ok(service) => service,
+        Err(stop) => {
+            refused_by(stop)?;
+            return Ok(told_at(desk));
+        }
+    };
+    if send(monitor, desk, op, ask, &service, true)? {
+        return Ok(Told::Descriptor(desk.caller.last_request()));
+    }
+    Ok(told_at(desk))
 }
 
 // It sets the priority of its next request.
@@ -190,7 +224,7 @@ fn make<W: Wait, G>(
     requires ready { IsReady monitor.now.domain.now desk.old.caller.op desk.old }
     requires active { MayCall desk.old.caller }
     requires turn { number ≡ desk.old.caller.op + 1 }
-    requires kind { IsCall op.now }
+    requires kind { IsCall (is_client desk.old.caller.work.clients desk.old.caller.work.id.0) op.now }
     ensures goes { PerformsBy monitor.now.domain.now number op.now desk.old desk.new }
     ensures active { MayCall desk.new.caller }
     ensures made { OnOk result (IsReady monitor.now.domain.now number desk.new) }
@@ -203,6 +237,24 @@ fn make<W: Wait, G>(
             call(monitor, desk, number, ask)?;
             Ok(told_at(desk))
         }
+        Op::Acall(ask) => acall(monitor, desk, number, ask),
+        Op::Get(descriptor, flags, expect) => {
+            let wanted = Wanted {
+                descriptor: Some(*descriptor),
+                flags: *flags,
+                expect,
+            };
+            get(monitor, desk, number, wanted)
+        }
+        Op::GetAny(flags, expect) => {
+            let wanted = Wanted {
+                descriptor: None,
+                flags: *flags,
+                expect,
+            };
+            get(monitor, desk, number, wanted)
+        }
+        Op::Cancel(descriptor) => cancel(monitor, desk, number, *descriptor),
         Op::Priority(absolute, amount) => {
             set_priority(monitor, desk, number, *absolute, *amount)?;
             Ok(told_at(desk))
@@ -225,7 +277,7 @@ pub fn perform<W: Wait, G: Gate>(
     requires ready { IsReady monitor.now.domain.now desk.old.caller.op desk.old }
     requires active { MayCall desk.old.caller }
     requires turn { number ≡ desk.old.caller.op + 1 }
-    requires kind { IsCall op.now }
+    requires kind { IsCall (is_client desk.old.caller.work.clients desk.old.caller.work.id.0) op.now }
     ensures goes { PerformsBy monitor.now.domain.now number op.now desk.old desk.new }
     ensures active { MayCall desk.new.caller }
     ensures made { OnOk result (IsReady monitor.now.domain.now number desk.new) }

@@ -2,6 +2,7 @@
 #![tactic(auto)]
 
 mod calling;
+mod getting;
 mod sending;
 mod telling;
 

@@ -4,9 +4,10 @@ use Rattle.std.specs.List.{Contains}
 use Rattle.xa_desk.specs.xa_types.declared.call.Op.{Op}
 use Rattle.xa_desk.specs.xa_types.declared.stamp.Stamp.{Stamp}
 use Rattle.xa_desk.specs.xa_events.declared.event.Event.TheVariants.{Leave}
-use Rattle.xa_desk.specs.xa_events.Caller.{last_op, just_accepted}
+use Rattle.xa_desk.specs.xa_events.Caller.{last_op}
 use Rattle.xa_desk.specs.xa_worker.declared.work.Halt.{Halt}
-use Rattle.xa_desk.specs.xa_worker.Work.{WorkState, theirs}
+use Rattle.xa_desk.specs.xa_worker.Work.{theirs}
+use Rattle.xa_desk.specs.xa_caller.declared.phase.Phase.TheVariants.{Idle}
 use Rattle.xa_desk.specs.declared.domain.Domain.{Domain}
 use Rattle.xa_desk.specs.declared.desk.Desk.{Desk}
 use Rattle.xa_desk.specs.declared.stopped.Stopped.{Stopped}
@@ -30,11 +31,11 @@ pub record GoesThrough (d : Domain) (ops : List Op) (old new : Desk) : Type 0 wh
   pub fits : FitsBy d ops old new
   pub same : IsSame old new
 
--- so many calls were made, the last of them is over, and the client has left, which came last
-pub record HasMade (made : ℕ) (w : WorkState) : Type 0 where
-  pub last : last_op w.id.0 (theirs w) ≡ made
-  pub over : just_accepted w.id.0 (theirs w) ≡ None
-  pub left : Contains w.own (record { stamp = w.stamp; event = Leave w.id })
+-- so many calls were made, none is under way, and the client has left, which came last
+pub record HasMade (made : ℕ) (desk : Desk) : Type 0 where
+  pub last : last_op desk.caller.work.id.0 (theirs desk.caller.work) ≡ made
+  pub idle : desk.caller.phase ≡ Idle
+  pub left : Contains desk.caller.work.own (record { stamp = desk.caller.work.stamp; event = Leave desk.caller.work.id })
 
 -- what the worker leaves behind is what a desk has left to which the old one led; where it didn't stop before, all of its calls were made
 pub record HasEnded (d : Domain) (Fits : Desk → Desk → Type 0) (made : ℕ) (old : Desk) (result : Ended) : Type 0 where
@@ -43,7 +44,7 @@ pub record HasEnded (d : Domain) (Fits : Desk → Desk → Type 0) (made : ℕ) 
   pub leads : Leads d old ended
   pub fits : Fits old ended
   pub same : IsSame old ended
-  pub all : result.stopped ≡ None → HasMade made ended.caller.work
+  pub all : result.stopped ≡ None → HasMade made ended
   pub halts : IfSome result.stopped (IsStopAt ended)
 
 -- why it stopped, where its caller came to a halt as it left

@@ -22,4 +22,4 @@ pub record IsReady (d : Domain) (op : ℕ) (desk : Desk) : Type 0 where
 -- ---- all calls of a client
 
 abbrev pub AllCalls : List Op → Type 0
-AllCalls ops = All IsCall ops
+AllCalls ops = All (IsCall true) ops

@@ -11,7 +11,8 @@ use Rattle.xa_server.specs.xa_types.declared.row.Row.{Row}
 use Rattle.xa_server.specs.xa_types.declared.stamp.Stamp.{Stamp}
 use Rattle.xa_server.specs.xa_events.declared.event.Event.{Event}
 use Rattle.xa_server.specs.xa_events.Board.{published}
-use Rattle.xa_server.specs.xa_events.Caller.{op_in}
+use Rattle.xa_server.specs.xa_events.Caller.{op_in, is_call_of}
+use Rattle.xa_server.specs.xa_events.Calls.{awaits_answer}
 use Rattle.xa_server.specs.xa_events.Homes.{home_of}
 use Rattle.xa_server.specs.xa_events.Homes.Home.{BoardHome}
 use Rattle.xa_server.specs.xa_stamp.declared.home.Stamped.{Stamped}
@@ -57,7 +58,7 @@ use Rattle.xa_desk.specs.Serving.{halt_by, seen_by}
 use Rattle.xa_desk.specs.Steps.{FitsOp}
 use Rattle.xa_desk.proofs.Boarding.{BoardStep, board_front, stamp_known, reach_known, least_before, version_rises, board_moves, board_seen_leads}
 use Rattle.xa_desk.proofs.Cleared.{EndsAt, seen_reached, seen_known}
-use Rattle.xa_desk.proofs.Fitting.{IsRead, its_events, call_over, one_more_fits}
+use Rattle.xa_desk.proofs.Fitting.{its_events, call_over, one_more_fits}
 use Rattle.xa_desk.proofs.Leading.{Grew, grew_one, is_behind, one_leads, starts_trans}
 use Rattle.xa_desk.proofs.Visiting.{larger_known}
 
@@ -129,8 +130,8 @@ module _ {d : Domain} {desk new : Desk} {p p' : LockPass BoardNote} (step : Boar
           (reached_last (page_of p').seen v.new v.saw v.sound new.caller.work.stamp (v.how.1.last ∙ sym stamp))) stamp shown
 
       -- and fits that call
-      pub change_fits : (call : Op) → op_in done.noted.event.value ≡ op → IsRead d desk → just_in desk.caller.phase ≡ None → ((whole : Whole) → GoesOn d whole new → FitsOwn d.setup d.clients (entries_of whole) done.noted.stamp call done.noted.event.value (its_events d desk)) → FitsOp d op call desk new
-      change_fits call op_is reads none fits = one_more_fits d desk new its change_leads grew op call op_is (λ ops turn. call_over d desk reads none ops) fits
+      pub change_fits : (call : Op) → op_in done.noted.event.value ≡ op → is_call_of w.id.0 done.noted.event.value ≡ true → ((ops : List Op) → awaits_answer ops (Some done.noted.event.value) ≡ false) → just_in desk.caller.phase ≡ None → ((whole : Whole) → GoesOn d whole new → FitsOwn d.setup d.clients (entries_of whole) done.noted.stamp call done.noted.event.value (its_events d desk)) → FitsOp d op call desk new
+      change_fits call op_is called over none fits = one_more_fits d desk new its change_leads grew op call op_is called (λ ops its_fits next. call_over d desk ops its_fits none) (λ idle ops numbers. over ops) fits
 
 -- ---- a row of the service
 

@@ -1,5 +1,5 @@
 -- A request that is aimed by another row.
-use Rattle.std.proofs.Common.{◌≡◌, ℕ, ◌+◌, true, List, [], Some, refl, sym, ◌∙◌, ap, subst, arith}
+use Rattle.std.proofs.Common.{◌≡◌, ℕ, ◌+◌, true, List, [], Some, None, refl, sym, ◌∙◌, ap, subst, arith}
 use Rattle.xa_desk.specs.Steps.{FitsOn}
 use Rattle.xa_server.specs.xa_cell.Known.{known}
 use Rattle.std.specs.Prelude.{slice_get}
@@ -27,7 +27,7 @@ use Rattle.xa_server.specs.xa_caller.declared.phase.Open.{Open}
 use Rattle.xa_server.specs.xa_caller.declared.phase.Phase.{Phase}
 use Rattle.xa_server.specs.xa_caller.Caller.{CallerState, AreRowsOf}
 use Rattle.xa_server.specs.xa_caller.Drafts.{Cargo, accepted_by, entry_by}
-use Rattle.xa_server.specs.xa_caller.Phases.{IsOfVersion}
+use Rattle.xa_server.specs.xa_caller.Phases.{just_in, IsOfVersion}
 use Rattle.xa_server.specs.xa_caller.Unsent.{AimsAs, AimsAt, entry_in}
 use Rattle.xa_server.proofs.xa_caller.Next.{same_kinds, row-service}
 use Rattle.xa_server.proofs.xa_caller.Unsent.{at-all}
@@ -35,7 +35,7 @@ use Rattle.xa_desk.specs.declared.domain.Domain.{Domain}
 use Rattle.xa_desk.proofs.Leading.{grew_none, IsQuiet, calm_leads}
 use Rattle.xa_desk.specs.declared.desk.Desk.{Desk}
 use Rattle.xa_desk.specs.Desks.{IsDesk, Leads}
-use Rattle.xa_desk.specs.Found.{HasFound, IsAimed, StillAimed}
+use Rattle.xa_desk.specs.Found.{HasFound, IsAimed, StillAimed, next_request}
 use Rattle.xa_desk.proofs.Fitting.{no_more_fits}
 use Rattle.xa_desk.proofs.Seating.{takes_same}
 use Rattle.xa_desk.proofs.Sending.{same_draft}
@@ -61,6 +61,7 @@ aims_at d found ask entry aimed event event' row attempt old new there by has be
       draft = again;
       prepared = ap (λ (c : CallerState). c.phase) by.made;
       drafted = by.drafted;
+      mine = ap (λ (o : Open). o.request) asked ∙ before.mine ∙ sym (ap next_request by.made);
       turn = ap (λ (t : Draft). t.op) by.same ∙ ap (λ (t : Draft). t.op) first ∙ before.turn ∙ ap (λ (c : CallerState). c.op + 1) (sym by.made);
       version = version;
       sound = before.sound;
@@ -85,22 +86,22 @@ module _ (d : Domain) (desk : Desk) (new : CallerState) (found : FoundRows) (ent
   phase_alone : new ≡ record desk.caller { phase = new.phase }
   phase_alone = same_but_phase entry found attempt result desk.caller new so
 
-  pub aim_goes : IsDesk d desk → Leads d desk (record desk { caller = new }) × ((service : List ℕ) → HasFound d service found desk → HasFound d service found (record desk { caller = new })) × ((op : ℕ) (ask : Ask) → FitsOn d op ask desk (record desk { caller = new }))
-  aim_goes is =
+  pub aim_goes : IsDesk d desk → just_in desk.caller.phase ≡ None → Leads d desk (record desk { caller = new }) × ((service : List ℕ) → HasFound d service found desk → HasFound d service found (record desk { caller = new })) × ((op : ℕ) (ask : Ask) → FitsOn d op ask desk (record desk { caller = new }))
+  aim_goes is idle =
       let quiet : IsQuiet d desk new = subst (IsQuiet d desk) (sym phase_alone) (record { grew = grew_none desk.caller.work desk.caller.work desk.caller.work.room desk.caller.work.stamp refl (omega arith); seat = is.seat; takes = takes_same (known desk.caller.seat); least = refl }) in
       let leads = calm_leads d desk new quiet is (ap (λ (c : CallerState). c.work.stamp) phase_alone) in
       let least = ap (λ (c : CallerState). c.least) phase_alone in (
         leads,
         λ service has. let recent = has.recent in found_stays d desk (record desk { caller = new }) leads service found refl (omega (arith, recent, least)) has,
-        λ op ask. no_more_fits d desk (record desk { caller = new }) leads quiet.grew op ask,
+        λ op ask apart wants ops its. no_more_fits d desk (record desk { caller = new }) leads quiet.grew (λ none. idle) ops,
       )
 
 pub aim_aims : (d : Domain) (desk : Desk) (new : CallerState) (found : FoundRows) (entry : Entry Cargo) (attempt : ℕ) (r : Aimed) → AimsAs entry found.rows attempt r new desk.caller → (ask : Ask) (event : Event) → IsRight d.cells (entry_in r) → HasFound d ask.service found desk → IsAimed d found ask.payload entry event desk → StillAimed d found ask.payload event r (record desk { caller = new })
 aim_aims d desk new found entry attempt (aims.At aimed event') is ask event right has before = aims_at d found ask entry aimed event event' is.0 attempt desk (record desk { caller = new }) is.1 is.2 has before right
 aim_aims d desk new found entry attempt (aims.Past back) is ask event right has before =
-    aimed_stays d found ask.payload back event desk (record desk { caller = new }) (ap (λ (c : CallerState). c.phase) is.2) (ap (λ (c : CallerState). c.op) is.2) (ap (λ (c : CallerState). c.priority) is.2) (subst (λ (e : Entry Cargo). IsAimed d found ask.payload e event desk) (sym is.1) before)
+    aimed_stays d found ask.payload back event desk (record desk { caller = new }) (ap (λ (c : CallerState). c.phase) is.2) (ap (λ (c : CallerState). c.op) is.2) (ap (λ (c : CallerState). c.priority) is.2) (ap next_request is.2) (subst (λ (e : Entry Cargo). IsAimed d found ask.payload e event desk) (sym is.1) before)
 aim_aims d desk new found entry attempt (aims.NoMemory back) is ask event right has before =
-    aimed_stays d found ask.payload back event desk (record desk { caller = new }) (ap (λ (c : CallerState). c.phase) is.1) (ap (λ (c : CallerState). c.op) is.1) (ap (λ (c : CallerState). c.priority) is.1) (subst (λ (e : Entry Cargo). IsAimed d found ask.payload e event desk) (sym is.0) before)
+    aimed_stays d found ask.payload back event desk (record desk { caller = new }) (ap (λ (c : CallerState). c.phase) is.1) (ap (λ (c : CallerState). c.op) is.1) (ap (λ (c : CallerState). c.priority) is.1) (ap next_request is.1) (subst (λ (e : Entry Cargo). IsAimed d found ask.payload e event desk) (sym is.0) before)
 
 -- what a caller asks of an aim
 pub aim_requires : (d : Domain) (desk : Desk) (found : FoundRows) (entry : Entry Cargo) → IsDesk d desk → (ask : Ask) (event : Event) → HasFound d ask.service found desk → IsAimed d found ask.payload entry event desk

@@ -40,7 +40,7 @@ use Rattle.xa_ticks.specs.declared.clock.Moment.{Moment}
 use Rattle.xa_ticks.specs.declared.clock.TickRefused.{TickRefused}
 use Rattle.xa_ticks.specs.declared.clock.TickRefused.TheVariants as refusals
 use Rattle.xa_ticks.specs.Clock.{ClockState, Advances, made_in, now_of, larger, tick_refused}
-use Rattle.xa_ticks.specs.Visits.{ClockVisits, ReachesClock, TickedAs}
+use Rattle.xa_ticks.specs.Visits.{ClockVisits, ReachesClock, ReadAs, TickedAs}
 use Rattle.xa_ticks.proofs.Passing.{bare_made}
 use Rattle.xa_ticks.proofs.Showing.{visited, seen_grows, ticked_now, ticked_behind, never_falls}
 use Rattle.xa_desk.specs.declared.domain.Domain.{Domain}
@@ -51,7 +51,8 @@ use Rattle.xa_desk.specs.Serving.{IsHaltNear, seen_by}
 use Rattle.xa_desk.specs.Steps.{FitsOp}
 use Rattle.xa_desk.specs.Ticking.{BarsTick, MovesAtClock, tick_halt}
 use Rattle.xa_desk.proofs.Cleared.{EndsAt, seen_known}
-use Rattle.xa_desk.proofs.Fitting.{IsRead, call_over, one_more_fits}
+use Rattle.xa_server.proofs.xa_caller.Reading.{is_numbered}
+use Rattle.xa_desk.proofs.Fitting.{call_over, one_more_fits}
 use Rattle.xa_desk.proofs.Leading.{Grew, grew_one, grew_none, Moves, leads_trans, none_leads, one_leads, starts_same, starts_trans, there, filled_more, among_at, on_home, off_home, board_pass_stays, queue_pass_stays, is_behind}
 use Rattle.xa_desk.proofs.Seating.{TakesOn, takes_same, none_taken}
 use Rattle.xa_desk.proofs.Timely.{IsTimely, floor_stays, if_some_if}
@@ -215,12 +216,39 @@ module _ {d : Domain} {old new : Desk} {p p' : LockPass Made} (step : ClockStep 
     tick_goes reader = moves_there visits_one tick_leads reader
 
     -- and fits that call
-    pub tick_fits : IsRead d old → just_in old.caller.phase ≡ None → FitsOp d op (TickOp n) old new
-    tick_fits reads none =
-        one_more_fits d old new x tick_leads grew op (TickOp n) refl (λ ops turn. call_over d old reads none ops)
+    pub tick_fits : 0 < op → just_in old.caller.phase ≡ None → FitsOp d op (TickOp n) old new
+    tick_fits above none =
+        one_more_fits d old new x tick_leads grew op (TickOp n) refl (is_numbered w.id.0 w.id.0 op refl above) (λ ops its next. call_over d old ops its none) (λ over ops its. refl)
         (λ whole on. subst (λ (id : CallerId). StandsBehind (noted_in whole.clock) (record { stamp = moment.stamp; event = tick_of id op moment.now }) (λ past. moment.now ≡ now past + n)) itself (ticked_behind (page_of p) (page_of p') seen by op n moment v whole.clock (clock_front whole on)))
 
-  -- ---- it wasn't, and its last stamp was seen, or that at which stamps came to their end
+  -- ---- nothing was noted there, and a stamp was seen that is no smaller than the clock's last
+
+  module _ {How : ClockState → ClockState → Type 0} (v : ClockVisits (page_of p) (page_of p') [] How) (last seen : Stamp) (reaches : ReachesClock (page_of p') last) (low : last.0 ≤ seen.0) (caller : new.caller ≡ record old.caller { work = seeing seen w }) where
+    pub higher_now : new.caller.work.stamp.0 ≡ max w.stamp.0 seen.0
+    higher_now = ap (λ (c : CallerState). c.work.stamp.0) caller
+
+    reached_now : All (λ (y : Stamped). y.stamp.0 ≤ w'.stamp.0) (noted_in (page_of p').seen)
+    reached_now = let high = higher_now in All-weaker (λ (y : Stamped). y.stamp.0 ≤ last.0) (λ (y : Stamped). y.stamp.0 ≤ w'.stamp.0) (λ y le. omega (arith, le, low, high)) (noted_in (page_of p').seen) reaches.each
+
+    grew_nothing : Grew w w' []
+    grew_nothing = grew_none w w' w.room (record { 0 = max w.stamp.0 seen.0 }) (ap (λ (c : CallerState). c.work) caller) (omega arith)
+
+    pub looked_leads : ((whole : Whole) → GoesOn d whole new → GoesOn d whole old → IsKnown whole seen) → Leads d old new
+    looked_leads known_seen =
+        none_leads step.is
+        (clock_moves v grew_nothing (All-nil (λ (y : Stamped). home_of d.setup d.clients y.event ≡ ClockHome)) (ap (λ (c : CallerState). c.seat) caller) (ap (λ (c : CallerState). c.least) caller) (All-nil (IsTimely w.clients w.id.0 after)) reached_now)
+        (λ whole on back. subst (IsKnown whole) (sym (ap (λ (c : CallerState). c.work.stamp) caller)) (larger_known whole w.stamp seen (step.is.known_stamp whole back) (known_seen whole on back)))
+
+  -- ---- it was looked at
+
+  module _ (tick : ℕ) (v : ReadAs (page_of p) (page_of p') tick) (last : Stamp) (reaches : ReachesClock (page_of p') last) (caller : new.caller ≡ record old.caller { work = seeing last w }) where
+    pub read_goes : new.reader ≡ old.reader → MovesAtClock d old new
+    read_goes reader = moves_there v (looked_leads v last last reaches (omega arith) caller (λ whole on back. last_known whole ClockHome (noted_in (page_of p').seen) last (seen_front whole on) reaches.is)) reader
+
+    pub read_shows : tick ≡ shown_to new
+    read_shows = v.how.1 ∙ ap now_of (sym v.how.0) ∙ ap (λ (l : List Stamped). now (past_in l)) (sym {A = List Stamped} (visited (page_of p) (page_of p') [] _ v)) ∙ sym shown_now_is
+
+  -- ---- it wasn't moved on, and its last stamp was seen, or that at which stamps came to their end
 
   module _ (seen : Stamp) (saw : seen ≡ w.stamp) (bound : seen.0 ≤ 2 ^ 63) (by : CallerId) (op n : ℕ) (why : TickRefused) (last : Stamp) (v : TickedAs (page_of p) (page_of p') seen by op n (Err why)) (reaches : ReachesClock (page_of p') last)
       (caller : new.caller ≡ record old.caller { work = seeing (seen_by (tick_halt why) last) w }) where
@@ -236,24 +264,17 @@ module _ {d : Domain} {old new : Desk} {p p' : LockPass Made} (step : ClockStep 
     last_at : last.0 ≡ last_stamp no_stamp v.old.entries
     last_at = reaches.is ∙ ap (last_stamp no_stamp) same_entries
 
-    higher_now : new.caller.work.stamp.0 ≡ max w.stamp.0 (seen_by (tick_halt why) last).0
-    higher_now = ap (λ (c : CallerState). c.work.stamp.0) caller
-
-    reached_now : All (λ (y : Stamped). y.stamp.0 ≤ w'.stamp.0) (noted_in (page_of p').seen)
-    reached_now = let low = at_least (tick_halt why) last end near (let at = last_at in omega (arith, at)) in let high = higher_now in All-weaker (λ (y : Stamped). y.stamp.0 ≤ last.0) (λ (y : Stamped). y.stamp.0 ≤ w'.stamp.0) (λ y le. omega (arith, le, low, high)) (noted_in (page_of p').seen) reaches.each
-
-    grew_nothing : Grew w w' []
-    grew_nothing = grew_none w w' w.room (record { 0 = max w.stamp.0 (seen_by (tick_halt why) last).0 }) (ap (λ (c : CallerState). c.work) caller) (omega arith)
+    low_end : last.0 ≤ (seen_by (tick_halt why) last).0
+    low_end = at_least (tick_halt why) last end near (let at = last_at in omega (arith, at))
 
     pub barred_leads : Leads d old new
     barred_leads =
-        none_leads step.is
-        (clock_moves v grew_nothing (All-nil (λ (y : Stamped). home_of d.setup d.clients y.event ≡ ClockHome)) (ap (λ (c : CallerState). c.seat) caller) (ap (λ (c : CallerState). c.least) caller) (All-nil (IsTimely w.clients w.id.0 after)) reached_now)
+        looked_leads v last (seen_by (tick_halt why) last) reaches low_end caller
         (λ whole on back.
         let at_last = last_known whole ClockHome (noted_in (page_of p').seen) last (seen_front whole on) reaches.is in
         let at_end = larger_known whole seen (record { 0 = last_stamp no_stamp v.old.entries }) (subst (IsKnown whole) (sym saw) (step.is.known_stamp whole back))
         (last_known whole ClockHome v.old.entries (record { 0 = last_stamp no_stamp v.old.entries }) (subst (StartsWith (entries_of whole ClockHome)) same_entries (seen_front whole on)) refl) in
-        subst (IsKnown whole) (sym (ap (λ (c : CallerState). c.work.stamp) caller)) (larger_known whole w.stamp (seen_by (tick_halt why) last) (step.is.known_stamp whole back) (seen_known whole (tick_halt why) last end near at_last at_end)))
+        seen_known whole (tick_halt why) last end near at_last at_end)
 
     pub barred_goes : new.reader ≡ old.reader → MovesAtClock d old new
     barred_goes reader = moves_there v barred_leads reader
@@ -265,7 +286,7 @@ module _ {d : Domain} {old new : Desk} {p p' : LockPass Made} (step : ClockStep 
         elim v.how.1 [ inl bar ↦ subst (BarsTick n why) shows (refused_so seen n v.old why bar).1 | inr memory ↦ subst (λ (r : TickRefused). BarsTick n r (shown_to new)) (sym memory) tt ]
 
     pub barred_halts : IsHaltNear new (tick_halt why)
-    barred_halts = halt_near (tick_halt why) near higher_now
+    barred_halts = halt_near (tick_halt why) near (higher_now v last (seen_by (tick_halt why) last) reaches low_end caller)
       where
         halt_near : (halt : Halt) → EndsAt end halt → new.caller.work.stamp.0 ≡ max w.stamp.0 (seen_by halt last).0 → IsHaltNear new halt
         halt_near halts.NoMemory is high = tt

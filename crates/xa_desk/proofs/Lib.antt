@@ -17,6 +17,7 @@ pub mod Advertising
 pub mod Refusals
 pub mod OwnQueue
 pub mod Parting
+pub mod Fetching
 pub mod Fitting
 pub mod Refusing
 pub mod Showing

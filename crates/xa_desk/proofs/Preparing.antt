@@ -1,5 +1,5 @@
 -- What a request that is prepared leaves, and a call that is refused before.
-use Rattle.std.proofs.Common.{◌≡◌, ◌≤◌, ◌<◌, ℕ, ◌+◌, ◌||◌, max, Bool, true, false, if◌then◌else◌, List, [], ◌∷◌, Some, None, Result, Ok, Err, inl, inr, refl, sym, ◌∙◌, ap, subst, arith}
+use Rattle.std.proofs.Common.{◌≡◌, ◌≤◌, ◌<◌, ℕ, ◌+◌, ◌||◌, max, Bool, true, false, if◌then◌else◌, length, List, [], ◌∷◌, Some, None, Result, Ok, Err, inl, inr, refl, sym, ◌∙◌, ap, subst, arith}
 use Rattle.std.specs.Prelude.{IfOk, IfErr, OnOk}
 use Rattle.std.specs.List.{Contains, find, list_any}
 use Rattle.std.proofs.lemmas.Bool.{cases_Bool}
@@ -28,7 +28,8 @@ use Rattle.xa_server.specs.xa_caller.declared.outcomes.Stop.{Stop}
 use Rattle.xa_server.specs.xa_caller.declared.outcomes.Stop.TheVariants as stops
 use Rattle.xa_server.specs.xa_caller.declared.phase.Draft.{Draft}
 use Rattle.xa_server.specs.xa_caller.Caller.{CallerState, room_to_send}
-use Rattle.xa_server.specs.xa_caller.Changes.{Prepares, Refuses, StopsAs, Limits}
+use Rattle.xa_server.specs.xa_cell.Calls.{AllTaken}
+use Rattle.xa_server.specs.xa_caller.Changes.{Prepares, Refuses, StopsAs, Limits, LooksOver}
 use Rattle.xa_server.specs.xa_caller.Drafts.{accepted_by, entry_by}
 use Rattle.xa_server.specs.xa_caller.Phases.{just_in}
 use Rattle.xa_server.specs.xa_caller.Unsent.{ChecksAs}
@@ -39,8 +40,8 @@ use Rattle.xa_desk.specs.declared.domain.Domain.{Domain}
 use Rattle.xa_desk.specs.declared.desk.Desk.{Desk}
 use Rattle.xa_desk.specs.Whole.{Whole, entries_of}
 use Rattle.xa_desk.specs.Desks.{GoesOn, IsDesk}
-use Rattle.xa_desk.specs.Found.{HasFound, IsAimed}
-use Rattle.xa_desk.proofs.Fitting.{its_events, IsRead, GoesFor, kept_goes, quiet_goes}
+use Rattle.xa_desk.specs.Found.{HasFound, IsAimed, next_request}
+use Rattle.xa_desk.proofs.Fitting.{its_events, GoesFor, kept_goes, quiet_goes}
 use Rattle.xa_desk.proofs.Leading.{grew_none, IsQuiet}
 use Rattle.xa_desk.proofs.Seating.{keeps_on}
 use Rattle.xa_desk.proofs.Refusing.{IsSame, same_as, refuse_goes}
@@ -71,7 +72,7 @@ listed_shows d found service desk P has holds whole on stamp less =
     weaker_front (entries_of whole BoardHome) stamp (λ past. (found.version ≤ published past) × (listed_in d.setup past found.version service false ≡ found.rows)) (λ past. (found.version ≤ published past) × P (listed_in d.setup past found.version service false))
     (λ past shows. (shows.0, subst P (sym {A = List Row} shows.1) holds)) (has.listed whole on stamp less)
 
-module _ (d : Domain) (desk : Desk) (found : FoundRows) (op : ℕ) (ask : Ask) (is : IsDesk d desk) (reads : IsRead d desk) (idle : just_in desk.caller.phase ≡ None) (turn : op ≡ desk.caller.op + 1) (has : HasFound d ask.service found desk) (valid : is_invalid_call d.setup ask ≡ false) (new : CallerState)
+module _ (d : Domain) (desk : Desk) (found : FoundRows) (op : ℕ) (ask : Ask) (is : IsDesk d desk) (idle : just_in desk.caller.phase ≡ None) (turn : op ≡ desk.caller.op + 1) (has : HasFound d ask.service found desk) (valid : is_invalid_call d.setup ask ≡ false) (new : CallerState)
     (seat : IsSeatOf d.cells new.seat) where
   abbrev Next : Desk
   Next = record desk { caller = new }
@@ -86,14 +87,14 @@ module _ (d : Domain) (desk : Desk) (found : FoundRows) (op : ℕ) (ask : Ask) (
     quiet =
         let made = makes.made in
         record {
-          grew = grew_none desk.caller.work new.work (max desk.caller.work.room room_to_send) desk.caller.work.stamp (ap (λ (c : CallerState). c.work) made) (omega arith);
+          grew = grew_none desk.caller.work new.work (max desk.caller.work.room (length desk.caller.out + room_to_send)) desk.caller.work.stamp (ap (λ (c : CallerState). c.work) made) (omega arith);
           seat = seat;
           takes = keeps_on (known desk.caller.seat) (known new.seat) (began_keeps d.cells _ desk.caller.seat new.seat makes.draft.asked.place prepared.entry.cargo.ticket makes.began);
           least = ap (λ (c : CallerState). c.least) made;
         }
 
     prepare_goes : GoesFor d op ask desk Next
-    prepare_goes = quiet_goes d desk new quiet is (ap (λ (c : CallerState). c.work.stamp) makes.made) op ask
+    prepare_goes = quiet_goes d desk new quiet is (ap (λ (c : CallerState). c.work.stamp) makes.made) (λ over. idle) op ask
 
     prepare_aims : IsRight d.cells prepared.entry → IsAimed d found ask.payload prepared.entry prepared.event Next
     prepare_aims right =
@@ -106,6 +107,7 @@ module _ (d : Domain) (desk : Desk) (found : FoundRows) (op : ℕ) (ask : Ask) (
           draft = makes.draft;
           prepared = ap (λ (c : CallerState). c.phase) makes.made;
           drafted = makes.drafted;
+          mine = its ∙ sym (ap next_request makes.made);
           turn = its_op ∙ turn ∙ ap (λ (c : CallerState). c.op + 1) (sym makes.made);
           version = ap (λ (t : Draft). t.version) makes.drawn;
           sound = sound_ask d.setup ask valid;
@@ -127,23 +129,35 @@ module _ (d : Domain) (desk : Desk) (found : FoundRows) (op : ℕ) (ask : Ask) (
   by_version fault stamp kind refuses P holds fits =
       let next = refuses.next in
       let goes = refuse_goes d desk desk.caller new op fault (Version found.version) stamp is (same_as d desk is) refuses has.seen kind tt (λ whole on.
-      weaker_front (entries_of whole BoardHome) stamp (λ past. (found.version ≤ published past) × (listed_in d.setup past found.version ask.service false ≡ found.rows)) (λ past. found.version ≤ published past) (λ past shows. shows.0) (has.listed whole on stamp (omega (arith, next)))) (λ whole on. tt) reads idle in
+      weaker_front (entries_of whole BoardHome) stamp (λ past. (found.version ≤ published past) × (listed_in d.setup past found.version ask.service false ≡ found.rows)) (λ past. found.version ≤ published past) (λ past shows. shows.0) (has.listed whole on stamp (omega (arith, next)))) (λ whole on. tt) (omega (arith, turn)) idle in
       (goes.0, goes.1 ask (λ whole on. fits whole (listed_shows d found ask.service desk P has holds whole on stamp (omega (arith, next)))))
 
   -- with all cells in use
   by_limit : (stamp : Stamp) → Limits op stamp new desk.caller → GoesFor d op ask desk Next
   by_limit stamp limits =
-      let left : CallerState = record desk.caller { work = record desk.caller.work { room = max desk.caller.work.room room_to_send }; seat = limits.seat } in
+      let left : CallerState = record desk.caller { work = record desk.caller.work { room = max desk.caller.work.room (length desk.caller.out + room_to_send) }; seat = limits.seat } in
       let same : IsSame d desk left = record { work = refl; seat = subst (IsSeatOf d.cells) (ap (λ (c : CallerState). c.seat) limits.refuses.made) seat; takes = keeps_on (known desk.caller.seat) (known limits.seat) (full_keeps desk.caller.seat limits.seat limits.taken); least = refl } in
-      let goes = refuse_goes d desk left new op Limit (Cells desk.caller.seat.count) stamp is same limits.refuses tt tt tt (λ whole on. tt) (λ whole on. tt) reads idle in
+      let goes = refuse_goes d desk left new op Limit (Cells desk.caller.seat.count) stamp is same limits.refuses tt tt tt (λ whole on. tt) (λ whole on. tt) (omega (arith, turn)) idle in
       (goes.0, goes.1 ask (λ whole on. (valid, refl)))
+
+  -- so it is where that can't be noted
+  over_goes : LooksOver new desk.caller → GoesFor d op ask desk Next
+  over_goes over =
+      let made = over.made in
+      quiet_goes d desk new (record {
+        grew = grew_none desk.caller.work new.work (max desk.caller.work.room (length desk.caller.out + room_to_send)) desk.caller.work.stamp (ap (λ (c : CallerState). c.work) made) (omega arith);
+        seat = seat;
+        takes = keeps_on (known desk.caller.seat) (known new.seat) (full_keeps desk.caller.seat new.seat (subst (AllTaken desk.caller.seat) (sym (ap (λ (c : CallerState). c.seat) made)) over.taken));
+        least = ap (λ (c : CallerState). c.least) made;
+      }) is (ap (λ (c : CallerState). c.work.stamp) made) (λ none. idle) op ask
 
   stop_goes : (stop : Stop) → StopsAs d.setup op ask.payload found stop new desk.caller → GoesFor d op ask desk Next
   stop_goes (stops.Refused stamp) (inl (none, inl down)) = by_version NoEnt stamp tt down.1 (λ rows. rows ≡ []) down.0 (λ whole saw. (valid, saw))
   stop_goes (stops.Refused stamp) (inl (none, inr down)) =
       by_version IType stamp tt down.1 (λ rows. (rows ≡ [] → ⊥) × (is_accepted_by d.setup ask.payload rows ≡ false)) (down.0, none_passes (λ (row : Row). is_accepted d.setup row.accepts (kind_of ask.payload)) found.rows none) (λ whole saw. (valid, saw))
   stop_goes (stops.Refused stamp) (inr full) = by_limit stamp full.1
-  stop_goes (stops.Halt halt) kept = kept_goes d desk op ask new is kept.1
+  stop_goes (stops.Halt halt) (halts, inl kept) = kept_goes d desk op ask new is kept
+  stop_goes (stops.Halt halt) (halts, inr over) = over_goes over
 
   pub prepared_goes : (r : Result Made Stop) → IfOk r (λ prepared. Prepares d.setup d.cells op ask.payload found prepared new desk.caller) → IfErr r (λ stop. StopsAs d.setup op ask.payload found stop new desk.caller) → IfOk r (λ prepared. IsRight d.cells prepared.entry)
       → GoesFor d op ask desk Next × IfOk r (λ prepared. IsAimed d found ask.payload prepared.entry prepared.event Next) × OnOk r (HasFound d ask.service found Next)
@@ -156,9 +170,9 @@ module _ (d : Domain) (desk : Desk) (found : FoundRows) (op : ℕ) (ask : Ask) (
 
 -- ---- a call that is invalid, or isn't
 
-module _ (d : Domain) (desk : Desk) (op : ℕ) (ask : Ask) (is : IsDesk d desk) (reads : IsRead d desk) (idle : just_in desk.caller.phase ≡ None) (new : CallerState) where
+module _ (d : Domain) (desk : Desk) (op : ℕ) (ask : Ask) (is : IsDesk d desk) (above : 0 < op) (idle : just_in desk.caller.phase ≡ None) (new : CallerState) where
   check_goes : (stop : Stop) → is_invalid_call d.setup ask ≡ true → ChecksAs op stop new desk.caller → GoesFor d op ask desk (record desk { caller = new })
-  check_goes (stops.Refused stamp) invalid refuses = let goes = refuse_goes d desk desk.caller new op Inval Argument stamp is (same_as d desk is) refuses tt tt tt (λ whole on. tt) (λ whole on. tt) reads idle in (goes.0, goes.1 ask (λ whole on. invalid))
+  check_goes (stops.Refused stamp) invalid refuses = let goes = refuse_goes d desk desk.caller new op Inval Argument stamp is (same_as d desk is) refuses tt tt tt (λ whole on. tt) (λ whole on. tt) above idle in (goes.0, goes.1 ask (λ whole on. invalid))
   check_goes (stops.Halt halt) invalid kept = kept_goes d desk op ask new is kept.1
 
   pub checked_goes : (r : Result (List ℕ) Stop) → OnOk r (new ≡ desk.caller) → IfErr r (λ stop. (is_invalid_call desk.caller.work.setup ask ≡ true) × ChecksAs op stop new desk.caller)

@@ -1,5 +1,5 @@
 -- What a desk knows and shows goes on, as its caller sets the priority of its next request.
-use Rattle.std.proofs.Common.{◌≡◌, ◌≤◌, ℕ, ℤ, Bool, None, Result, Ok, Err, [], ◌∷◌, refl, sym, ap, subst, arith}
+use Rattle.std.proofs.Common.{◌≡◌, ◌≤◌, ℕ, ℤ, Bool, None, Result, Ok, Err, [], ◌∷◌, refl, sym, ap, subst, arith, ◌<◌}
 use Rattle.std.specs.Prelude.{IfOk, OnErr}
 use Rattle.xa_server.specs.xa_types.declared.call.Op.TheVariants.{Priority as PriorityOp}
 use Rattle.xa_server.specs.xa_types.declared.stamp.Stamp.{Stamp}
@@ -17,12 +17,13 @@ use Rattle.xa_desk.specs.declared.domain.Domain.{Domain}
 use Rattle.xa_desk.specs.declared.desk.Desk.{Desk}
 use Rattle.xa_desk.specs.Desks.{IsDesk, Leads, board_page}
 use Rattle.xa_desk.specs.Steps.{FitsOp}
-use Rattle.xa_desk.proofs.Fitting.{IsRead, call_over, one_more_fits}
+use Rattle.xa_server.proofs.xa_caller.Reading.{is_numbered}
+use Rattle.xa_desk.proofs.Fitting.{call_over, one_more_fits}
 use Rattle.xa_desk.proofs.Leading.{Grew, grew_one, next_leads}
 use Rattle.xa_desk.proofs.Seating.{TakesOn, takes_same}
 use Rattle.xa_desk.proofs.Stopping.{same_leads}
 
-module _ (d : Domain) (desk : Desk) (op : ℕ) (absolute : Bool) (amount : ℤ) (is : IsDesk d desk) (reads : IsRead d desk) (none : just_in desk.caller.phase ≡ None) (new : CallerState) where
+module _ (d : Domain) (desk : Desk) (op : ℕ) (absolute : Bool) (amount : ℤ) (is : IsDesk d desk) (above : 0 < op) (none : just_in desk.caller.phase ≡ None) (new : CallerState) where
   abbrev Next : Desk
   Next = record desk { caller = new }
 
@@ -41,7 +42,7 @@ module _ (d : Domain) (desk : Desk) (op : ℕ) (absolute : Bool) (amount : ℤ) 
         (λ whole on. record { saw = tt; told = tt; clears = tt })
 
     set_fits : FitsOp d op (PriorityOp absolute amount) desk Next
-    set_fits = one_more_fits d desk Next One set_leads grew op (PriorityOp absolute amount) refl (λ ops turn. call_over d desk reads none ops) (λ whole on. (refl, refl))
+    set_fits = one_more_fits d desk Next One set_leads grew op (PriorityOp absolute amount) refl (is_numbered desk.caller.work.id.0 desk.caller.work.id.0 op refl above) (λ ops its next. call_over d desk ops its none) (λ over ops its. refl) (λ whole on. (refl, refl))
 
   pub set_goes : (r : Result Stamp Halt) → IfOk r (λ stamp. SetsPriority op absolute amount stamp new desk.caller) → OnErr r (new ≡ desk.caller) → Leads d desk Next × FitsOp d op (PriorityOp absolute amount) desk Next × OnErr r (Next ≡ desk)
   set_goes (Ok stamp) sets kept = (set_leads stamp sets, set_fits stamp sets, tt)

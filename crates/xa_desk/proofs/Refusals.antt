@@ -1,5 +1,5 @@
 -- What a desk knows and shows goes on, as a call that would change the board or the clock is refused.
-use Rattle.std.proofs.Common.{◌≡◌, ◌≤◌, ◌<◌, ◌&&◌, ℕ, true, false, List, [], ◌∷◌, length, Option, Some, None, refl, sym, ◌∙◌, ap, subst, arith}
+use Rattle.std.proofs.Common.{◌≡◌, ◌≤◌, ◌<◌, ◌&&◌, ℕ, true, false, List, length, Option, Some, None, refl, sym, ◌∙◌, ap, subst, arith}
 use Rattle.std.specs.Prelude.{IfSome, IsSomeAnd, IfOk, OnErr, Result, Ok, Err, ◌+◌}
 use Rattle.std.specs.List.{All}
 use Rattle.std.proofs.lemmas.List.{map-append}
@@ -13,8 +13,9 @@ use Rattle.xa_server.specs.xa_types.declared.stamp.Stamp.{Stamp}
 use Rattle.xa_server.specs.xa_events.declared.event.Event.{Event}
 use Rattle.xa_server.specs.xa_events.declared.event.Evidence.{Evidence}
 use Rattle.xa_server.specs.xa_events.declared.event.Evidence.TheVariants.{Role, Argument, Clock, Routine, Rows, NoRow}
+use Rattle.xa_server.specs.xa_events.Local.{worker_events}
 use Rattle.xa_server.specs.xa_events.Board.{boot, published}
-use Rattle.xa_server.specs.xa_events.Caller.{version_in, versions, tick_of, tick_floor, is_client}
+use Rattle.xa_server.specs.xa_events.Caller.{newest_call, version_in, versions, tick_of, tick_floor, is_client}
 use Rattle.xa_server.specs.xa_events.Clock.{is_shown, now}
 use Rattle.xa_server.specs.xa_events.Cases.{Shows, ShowsItself, IsOwnEvidence, queue_by}
 use Rattle.xa_server.specs.xa_types.Rows.{row_of}
@@ -47,11 +48,11 @@ use Rattle.xa_server.specs.xa_types.Name.{is_name}
 use Rattle.xa_server.specs.xa_worker.Going.{FitEach}
 use Rattle.xa_desk.specs.Made.{IsRefusal}
 use Rattle.xa_desk.specs.Whole.{Whole, entries_of}
-use Rattle.xa_desk.specs.Desks.{GoesOn, IsDesk, IsBoardPass, IsClockPass, IsThere, Leads, FitsCalls, page_in, board_page, clock_page, shown_to}
+use Rattle.xa_desk.specs.Desks.{GoesOn, IsDesk, IsBoardPass, IsClockPass, IsThere, Leads, IsOver, FitsCalls, page_in, board_page, clock_page, shown_to}
 use Rattle.xa_desk.specs.Steps.{FitsOp}
-use Rattle.xa_desk.proofs.Fitting.{its_events, IsRead, call_over, one_more_fits}
-use Rattle.xa_desk.proofs.Leading.{Grew, grew_one, leads_trans, starts_same, starts_trans}
-use Rattle.xa_desk.proofs.Refusing.{same_as, refuse_leads}
+use Rattle.xa_desk.proofs.Fitting.{its_events, IsRead}
+use Rattle.xa_desk.proofs.Leading.{leads_trans, starts_same, starts_trans}
+use Rattle.xa_desk.proofs.Refusing.{same_as, refuse_leads, refused_on}
 use Rattle.xa_desk.proofs.Stopping.{same_leads}
 
 -- no tick that the pass saw has a greater stamp than the worker
@@ -138,7 +139,7 @@ module _ (d : Domain) (desk : Desk) (is : IsDesk d desk) (reads : IsRead d desk)
   is_backed _ fault evidence so = absurd so
 
   -- the refusal was noted
-  module _ (op : ℕ) (fault : Fault) (evidence : Evidence) (backed : IsBacked fault evidence) (none : just_in desk.caller.phase ≡ None) (stamp : Stamp) (new : CallerState) (refuses : Refuses op fault evidence stamp new desk.caller) where
+  module _ (op : ℕ) (fault : Fault) (evidence : Evidence) (backed : IsBacked fault evidence) (above : 0 < op) (none : just_in desk.caller.phase ≡ None) (stamp : Stamp) (new : CallerState) (refuses : Refuses op fault evidence stamp new desk.caller) where
     abbrev Next : Desk
     Next = record desk { caller = new }
 
@@ -152,11 +153,9 @@ module _ (d : Domain) (desk : Desk) (is : IsDesk d desk) (reads : IsRead d desk)
     refused_leads =
         refuse_leads d desk desk.caller new op fault evidence stamp is (same_as d desk is) refuses shown backed.kind backed.timely (backed.saw stamp (omega (arith, next))) (λ whole on. backed.told stamp whole)
 
-    abbrev One : Stamped
-    One = record { stamp = stamp; event = refused op fault evidence desk.caller }
-
-    grew : Grew w new.work (One ∷ [])
-    grew = grew_one w new.work w.room One (ap (λ (c : CallerState). c.work) refuses.made) (omega (arith, next)) backed.kind
+    fits_so : (call : Op) → ((whole : Whole) → GoesOn d whole desk → FitsOwn d.setup d.clients (entries_of whole) stamp call (refused op fault evidence desk.caller) (its_events d desk)) → FitsOp d op call desk Next
+    fits_so call fits =
+        refused_on d desk desk.caller new op fault evidence stamp is (same_as d desk is) refuses shown backed.kind backed.timely (backed.saw stamp (omega (arith, next))) (λ whole on. backed.told stamp whole) call above none fits
 
     -- and fits a call that is refused so
     module _ (whole : Whole) (on : GoesOn d whole desk) where
@@ -184,26 +183,26 @@ module _ (d : Domain) (desk : Desk) (is : IsDesk d desk) (reads : IsRead d desk)
       own_fits _ so = absurd so
 
     refused_fits : (change : Op) → ChangeRefusedBy d desk change fault evidence → FitsOp d op change desk Next
-    refused_fits change so = one_more_fits d desk Next One refused_leads grew op change refl (λ ops turn. call_over d desk reads none ops) (λ whole on. own_fits whole (refused_leads.before whole on) change so)
+    refused_fits change so = fits_so change (λ whole on. own_fits whole on change so)
 
     refused_tick_fits : (n : ℕ) → TickRefusedBy d desk n fault evidence → FitsOp d op (Tick n) desk Next
-    refused_tick_fits n so = one_more_fits d desk Next One refused_leads grew op (Tick n) refl (λ ops turn. call_over d desk reads none ops) (λ whole on. tick_fits whole (refused_leads.before whole on) n fault evidence so)
+    refused_tick_fits n so = fits_so (Tick n) (λ whole on. tick_fits whole on n fault evidence so)
 
   -- a tick is refused, or nothing was noted
-  pub refuse_tick_goes : (op n : ℕ) (fault : Fault) (evidence : Evidence) → TickRefusedBy d desk n fault evidence → just_in desk.caller.phase ≡ None → (new : CallerState) (r : Result Stamp Halt) → IfOk r (λ stamp. Refuses op fault evidence stamp new desk.caller) → OnErr r (new ≡ desk.caller)
+  pub refuse_tick_goes : (op n : ℕ) (fault : Fault) (evidence : Evidence) → TickRefusedBy d desk n fault evidence → 0 < op → just_in desk.caller.phase ≡ None → (new : CallerState) (r : Result Stamp Halt) → IfOk r (λ stamp. Refuses op fault evidence stamp new desk.caller) → OnErr r (new ≡ desk.caller)
       → Leads d desk (record desk { caller = new }) × FitsOp d op (Tick n) desk (record desk { caller = new }) × OnErr r (record desk { caller = new } ≡ desk)
-  refuse_tick_goes op n fault evidence so none new (Ok stamp) refuses kept =
+  refuse_tick_goes op n fault evidence so above none new (Ok stamp) refuses kept =
       let backed = tick_backed n fault evidence so in
-      (refused_leads op fault evidence backed none stamp new refuses, refused_tick_fits op fault evidence backed none stamp new refuses n so, tt)
-  refuse_tick_goes op n fault evidence so none new (Err halt) refuses kept =
+      (refused_leads op fault evidence backed above none stamp new refuses, refused_tick_fits op fault evidence backed above none stamp new refuses n so, tt)
+  refuse_tick_goes op n fault evidence so above none new (Err halt) refuses kept =
       let still = ap (λ (c : CallerState). record desk { caller = c }) kept in
       (subst (Leads d desk) (sym still) (same_leads d desk is), subst (FitsOp d op (Tick n) desk) (sym still) (λ ops its fits. fits), still)
 
   -- a call is refused, or nothing was noted
-  pub refuse_goes : (op : ℕ) (fault : Fault) (evidence : Evidence) → IsBacked fault evidence → just_in desk.caller.phase ≡ None → (new : CallerState) (r : Result Stamp Halt) → IfOk r (λ stamp. Refuses op fault evidence stamp new desk.caller) → OnErr r (new ≡ desk.caller)
+  pub refuse_goes : (op : ℕ) (fault : Fault) (evidence : Evidence) → IsBacked fault evidence → 0 < op → just_in desk.caller.phase ≡ None → (new : CallerState) (r : Result Stamp Halt) → IfOk r (λ stamp. Refuses op fault evidence stamp new desk.caller) → OnErr r (new ≡ desk.caller)
       → Leads d desk (record desk { caller = new }) × ((change : Op) → ChangeRefusedBy d desk change fault evidence → FitsOp d op change desk (record desk { caller = new })) × OnErr r (record desk { caller = new } ≡ desk)
-  refuse_goes op fault evidence backed none new (Ok stamp) refuses kept = (refused_leads op fault evidence backed none stamp new refuses, refused_fits op fault evidence backed none stamp new refuses, tt)
-  refuse_goes op fault evidence backed none new (Err halt) refuses kept =
+  refuse_goes op fault evidence backed above none new (Ok stamp) refuses kept = (refused_leads op fault evidence backed above none stamp new refuses, refused_fits op fault evidence backed above none stamp new refuses, tt)
+  refuse_goes op fault evidence backed above none new (Err halt) refuses kept =
       let still = ap (λ (c : CallerState). record desk { caller = c }) kept in
       (subst (Leads d desk) (sym still) (same_leads d desk is), λ change so. subst (FitsOp d op change desk) (sym still) (λ ops its fits. fits), still)
 
@@ -288,8 +287,10 @@ bars_named {service} {service'} {routine} {routine'} one other queue why rows ba
 
 -- a caller that only saw a stamp fits the calls that it fitted
 pub seen_fits : (d : Domain) (old new : Desk) → Leads d old new → (seen : Stamp) → new.caller ≡ record old.caller { work = seeing seen old.caller.work } → (ops : List Op) → FitsCalls d ops old → FitsCalls d ops new
-seen_fits d old new leads stamp same ops fits whole on =
-    subst (λ (c : CallerState). FitEach d.setup d.clients (entries_of whole) c.work.id.0 ops c.work.own) (sym same) (fits whole (leads.before whole on))
+seen_fits d old new leads stamp same ops fits = record {
+  each = λ whole on. subst (λ (c : CallerState). FitEach d.setup d.clients (entries_of whole) c.work.id.0 ops c.work.own) (sym same) (fits.each whole (leads.before whole on));
+  over = subst (λ (c : CallerState). IsOver c.phase ops (newest_call c.work.id.0 (worker_events d.clients c.work.id.0 (past_in c.work.own)))) (sym same) fits.over;
+}
 
 pub ok_both : {A E : Type 0} (P : A → Type 0) (Q : Type 0) → Q → (r : Result A E) → IfOk r P → IfOk r (λ a. P a × Q)
 ok_both P Q also (Ok a) is = (is, also)

@@ -1,17 +1,18 @@
 -- What a desk knows and shows goes on, as a call of its caller is refused.
-use Rattle.std.proofs.Common.{◌≡◌, ◌≤◌, ℕ, ◌==◌, [], ◌∷◌, ◌++◌, Option, Some, None, refl, sym, ◌∙◌, ap, subst, arith, ◌+◌}
+use Rattle.std.proofs.Common.{◌≡◌, ◌≤◌, ◌<◌, ℕ, ◌==◌, ◌||◌, Bool, true, false, [], ◌∷◌, ◌++◌, Option, Some, None, refl, sym, ◌∙◌, ap, subst, arith, ◌+◌}
 use Rattle.std.specs.Prelude.{IfSome}
 use Rattle.xa_server.specs.xa_types.declared.call.Ask.{Ask}
-use Rattle.xa_server.specs.xa_types.declared.call.Op.TheVariants.{Call}
+use Rattle.xa_server.specs.xa_types.declared.call.Op.{Op}
+use Rattle.xa_server.specs.xa_types.declared.setup.Setup.{Setup}
 use Rattle.xa_server.specs.xa_types.declared.fault.Fault.{Fault}
 use Rattle.xa_server.specs.xa_types.declared.stamp.Stamp.{Stamp}
 use Rattle.xa_server.specs.xa_events.declared.event.Evidence.{Evidence}
 use Rattle.xa_server.specs.xa_events.Board.{published}
 use Rattle.xa_server.specs.xa_events.Caller.{version_in, tick_of}
-use Rattle.xa_server.specs.xa_events.Calls.{as_call}
+use Rattle.xa_server.specs.xa_events.Calls.{Asking, is_invalid_ask, as_call, as_acall}
 use Rattle.xa_server.specs.xa_events.Homes.Home.{CallerHome}
 use Rattle.xa_server.specs.xa_stamp.declared.home.Stamped.{Stamped}
-use Rattle.xa_server.specs.xa_worker.Calls.{AskRefusedOwn}
+use Rattle.xa_server.specs.xa_worker.Calls.{AskRefusedOwn, FitsOwn}
 use Rattle.xa_server.specs.xa_worker.Seen.{past_in, SawEvidence, ToldEvidence}
 use Rattle.xa_server.specs.xa_cell.Known.{known, IsSeatOf}
 use Rattle.xa_server.specs.xa_held.Joins.{changes_at}
@@ -25,8 +26,9 @@ use Rattle.xa_desk.specs.declared.desk.Desk.{Desk}
 use Rattle.xa_desk.specs.Whole.{Whole, entries_of}
 use Rattle.xa_desk.specs.Desks.{GoesOn, IsDesk, Leads, board_page, shown_to}
 use Rattle.xa_desk.proofs.Timely.{if_some_if}
-use Rattle.xa_desk.specs.Steps.{FitsOn}
-use Rattle.xa_desk.proofs.Fitting.{its_events, IsRead, call_over, one_more_fits}
+use Rattle.xa_desk.specs.Steps.{FitsOn, FitsOp, WantsReply, ask_by}
+use Rattle.xa_server.proofs.xa_caller.Reading.{is_numbered}
+use Rattle.xa_desk.proofs.Fitting.{its_events, call_over, one_more_fits}
 use Rattle.xa_desk.proofs.Leading.{Grew, grew_one, next_leads}
 use Rattle.xa_desk.proofs.Seating.{TakesOn, takes_same}
 
@@ -43,6 +45,14 @@ pub record IsSame (d : Domain) (desk : Desk) (left : CallerState) : Type 0 where
 
 pub same_as : (d : Domain) (desk : Desk) → IsDesk d desk → IsSame d desk desk.caller
 same_as d desk is = record { work = refl; seat = is.seat; takes = takes_same (known desk.caller.seat); least = refl }
+
+-- a tpacall that wants a reply asks as a tpcall does
+same_asking : (setup : Setup) (ask : Ask) → ask.flags.no_reply ≡ false → as_acall setup ask ≡ as_call setup ask
+same_asking setup ask wants = rw wants (ap (λ (b : Bool). record { invalid = b; conversational = false; wants_cell = true }) (sym (or_false (is_invalid_ask setup ask))))
+  where
+    or_false : (b : Bool) → (b || false) ≡ b
+    or_false true = refl
+    or_false false = refl
 
 module _ (d : Domain) (desk : Desk) (left new : CallerState) (op : ℕ) (fault : Fault) (evidence : Evidence) (stamp : Stamp) (is : IsDesk d desk) (same : IsSame d desk left) (refuses : Refuses op fault evidence stamp new left)
     (shown : IfSome (version_in evidence) (λ v. v ≤ published (past_in (changes_at (board_page desk).seen)))) (kind : IsRefusal fault evidence) (timely : IfSome (tick_of evidence) (λ tick. tick ≤ shown_to desk)) where
@@ -70,7 +80,18 @@ module _ (d : Domain) (desk : Desk) (left new : CallerState) (op : ℕ) (fault :
         (subst (λ (c : CallerState). c.least ≤ published (past_in (changes_at (board_page desk).seen))) (sym made) shows_least) (if_some_if (left.work.id.0 == desk.caller.work.id.0) (tick_of evidence) (λ tick. tick ≤ shown_to desk) timely) is next
         (λ whole on. record { saw = saw whole on; told = told whole on; clears = tt })
 
-    -- and that fits a call that may be refused so
-    pub refuse_goes : IsRead d desk → just_in desk.caller.phase ≡ None → Leads d desk (record desk { caller = new })
+    -- and that fits any call that may be refused so
+    pub refused_on : (call : Op) → 0 < op → just_in desk.caller.phase ≡ None → ((whole : Whole) → GoesOn d whole desk → FitsOwn d.setup d.clients (entries_of whole) stamp call One.event (its_events d desk)) → FitsOp d op call desk (record desk { caller = new })
+    refused_on call above none fits =
+        one_more_fits d desk (record desk { caller = new }) One refuse_leads grew op call refl (is_numbered desk.caller.work.id.0 left.work.id.0 op (ap (λ (w : WorkState). w.id.0) same.work) above)
+        (λ ops its turn. call_over d desk ops its none) (λ over ops its. refl) (λ whole on. fits whole (refuse_leads.before whole on))
+
+    -- one that asks for a service too
+    pub refuse_goes : 0 < op → just_in desk.caller.phase ≡ None → Leads d desk (record desk { caller = new })
         × ((ask : Ask) → ((whole : Whole) → GoesOn d whole desk → AskRefusedOwn d.setup d.clients (entries_of whole) stamp left.work.id.0 (as_call d.setup ask) ask fault evidence (its_events d desk)) → FitsOn d op ask desk (record desk { caller = new }))
-    refuse_goes reads none = (refuse_leads, λ ask fits. one_more_fits d desk (record desk { caller = new }) One refuse_leads grew op (Call ask) refl (λ ops turn. call_over d desk reads none ops) (λ whole on. fits whole (refuse_leads.before whole on)))
+    refuse_goes above none = (refuse_leads, λ ask fits apart wants. refused_on (ask_by apart ask) above none (λ whole on. by_ask whole apart ask wants (fits whole on)))
+      where
+        by_ask : (whole : Whole) (apart : Bool) (ask : Ask) → WantsReply apart ask → AskRefusedOwn d.setup d.clients (entries_of whole) stamp left.work.id.0 (as_call d.setup ask) ask fault evidence (its_events d desk)
+            → FitsOwn d.setup d.clients (entries_of whole) stamp (ask_by apart ask) One.event (its_events d desk)
+        by_ask whole true ask wants fits = subst (λ (how : Asking). AskRefusedOwn d.setup d.clients (entries_of whole) stamp left.work.id.0 how ask fault evidence (its_events d desk)) (sym (same_asking d.setup ask wants)) fits
+        by_ask whole false ask wants fits = fits

@@ -26,7 +26,7 @@ use Rattle.xa_desk.specs.declared.domain.Domain.{Domain}
 use Rattle.xa_desk.specs.declared.desk.Desk.{Desk}
 use Rattle.xa_desk.specs.Whole.{entries_of}
 use Rattle.xa_desk.specs.Desks.{Leads, page_in}
-use Rattle.xa_desk.specs.Found.{SawOnBoard, SawAtQueue, SawItsOwnAt, SawInHandAt, HasFound, IsAimed}
+use Rattle.xa_desk.specs.Found.{SawOnBoard, SawAtQueue, SawItsOwnAt, SawInHandAt, HasFound, IsAimed, next_request}
 use Rattle.xa_desk.specs.Serving.{IsTaken}
 
 module _ (d : Domain) (old new : Desk) (leads : Leads d old new) where
@@ -87,11 +87,12 @@ module _ (d : Domain) (old new : Desk) (leads : Leads d old new) where
   }
 
 -- a request is aimed as it was, where its caller's call and what it set for the priority stand as they did
-pub aimed_stays : (d : Domain) (found : FoundRows) (payload : Data) (entry : Entry Cargo) (event : Event) (old new : Desk) → new.caller.phase ≡ old.caller.phase → new.caller.op ≡ old.caller.op → new.caller.priority ≡ old.caller.priority → IsAimed d found payload entry event old → IsAimed d found payload entry event new
-aimed_stays d found payload entry event old new phase op priority aimed = record {
+pub aimed_stays : (d : Domain) (found : FoundRows) (payload : Data) (entry : Entry Cargo) (event : Event) (old new : Desk) → new.caller.phase ≡ old.caller.phase → new.caller.op ≡ old.caller.op → new.caller.priority ≡ old.caller.priority → next_request new.caller ≡ next_request old.caller → IsAimed d found payload entry event old → IsAimed d found payload entry event new
+aimed_stays d found payload entry event old new phase op priority request aimed = record {
   draft = aimed.draft;
   prepared = phase ∙ aimed.prepared;
   drafted = aimed.drafted;
+  mine = aimed.mine ∙ sym request;
   turn = aimed.turn ∙ ap (λ n. n + 1) (sym op);
   version = aimed.version;
   sound = aimed.sound;

@@ -76,8 +76,3 @@ timely_at setup k clients worker most home aside more at = All-weaker (λ (x : S
 pub if_some_if : (b : Bool) (o : Option ℕ) (P : ℕ → Type 0) → IfSome o P → IfSome (if b then o else None) P
 if_some_if true o P is = is
 if_some_if false o P is = tt
-
--- a start at tick 0
-pub timely_first : (b : Bool) (tick most : ℕ) → tick ≡ 0 → IfSome (if b then Some tick else None) (λ (t : ℕ). t ≤ most)
-timely_first true tick most zero = omega (arith, zero)
-timely_first false tick most zero = tt

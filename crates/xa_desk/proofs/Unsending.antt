@@ -1,5 +1,5 @@
 -- What a request leaves that no queue took.
-use Rattle.std.proofs.Common.{◌≡◌, ◌⊎◌, ◌≤◌, ℕ, ◌+◌, ◌==◌, Bool, true, false, List, [], Option, Some, None, inr, refl, sym, ◌∙◌, ap, subst, arith, eq-eqb, inl}
+use Rattle.std.proofs.Common.{◌≡◌, ◌⊎◌, ◌≤◌, ℕ, ◌+◌, ◌==◌, Bool, true, false, List, [], Option, Some, None, inr, refl, sym, ◌∙◌, ap, subst, arith, eq-eqb, inl, ◌<◌}
 use Rattle.xa_server.proofs.xa_queue.Waiting.{none_of}
 use Rattle.std.proofs.lemmas.Bool.{cases_Bool, false≢true}
 use Rattle.std.specs.List.{All, list_any}
@@ -56,7 +56,7 @@ use Rattle.xa_desk.proofs.Refusing.{IsSame, refuse_goes}
 use Rattle.xa_desk.proofs.Sending.{same_draft}
 use Rattle.xa_desk.proofs.Showing.{count_theirs}
 
-module _ (d : Domain) (desk : Desk) (found : FoundRows) (cell : ℕ) (is : IsDesk d desk) (reads : IsRead d desk) (has : (service : List ℕ) × HasFound d service found desk) (draft : Draft) (version : draft.version ≡ found.version) (idle : just_in desk.caller.phase ≡ None) (new : CallerState)
+module _ (d : Domain) (desk : Desk) (found : FoundRows) (cell : ℕ) (is : IsDesk d desk) (reads : IsRead d desk) (has : (service : List ℕ) × HasFound d service found desk) (draft : Draft) (version : draft.version ≡ found.version) (above : 0 < draft.op) (idle : just_in desk.caller.phase ≡ None) (new : CallerState)
     (seat : Seat Filling) (its : IsSeatOf d.cells seat) (back : known seat ≡ withdrawn cell (known desk.caller.seat)) where
   abbrev Next : Desk
   Next = record desk { caller = new }
@@ -79,7 +79,7 @@ module _ (d : Domain) (desk : Desk) (found : FoundRows) (cell : ℕ) (is : IsDes
   left_goes blocks left =
       let quiet : IsQuiet d desk new = subst (IsQuiet d desk) (sym left) (record { grew = grew_none desk.caller.work desk.caller.work desk.caller.work.room desk.caller.work.stamp refl (omega arith); seat = its; takes = takes; least = refl }) in
       let leads = calm_leads d desk new quiet is (ap (λ (c : CallerState). c.work.stamp) left) in
-      (leads, λ ask valid same_blocks its_found. no_more_fits d desk Next leads quiet.grew draft.op ask)
+      (leads, λ ask valid same_blocks its_found apart wants ops its. no_more_fits d desk Next leads quiet.grew (λ none. idle) ops)
 
   -- each queue was shut
   down_goes : (blocks : Bool) (stamp : Stamp) → Refuses draft.op System (AllDown draft.version) stamp new Left → IsWhy d found reasons.AllShut desk → Goes blocks
@@ -87,7 +87,7 @@ module _ (d : Domain) (desk : Desk) (found : FoundRows) (cell : ℕ) (is : IsDes
       let next = refuses.next in
       let seen = has.1.seen in
       let goes = refuse_goes d desk Left new draft.op System (AllDown draft.version) stamp is same refuses (omega (arith, version, seen)) tt tt (λ whole on.
-      weaker_front (entries_of whole BoardHome) stamp (λ past. (found.version ≤ published past) × (listed_in d.setup past found.version has.0 false ≡ found.rows)) (λ past. draft.version ≤ published past) (λ past shows. let le = shows.0 in omega (arith, version, le)) (has.1.listed whole on stamp (omega (arith, next)))) (λ whole on. tt) reads idle in (
+      weaker_front (entries_of whole BoardHome) stamp (λ past. (found.version ≤ published past) × (listed_in d.setup past found.version has.0 false ≡ found.rows)) (λ past. draft.version ≤ published past) (λ past shows. let le = shows.0 in omega (arith, version, le)) (has.1.listed whole on stamp (omega (arith, next)))) (λ whole on. tt) above idle in (
         goes.0,
         λ ask valid same_blocks its_found. goes.1 ask (λ whole on.
             let Shut : Row → Type 0 = λ row. SawQueue d.setup row.queue.0 (entries_of whole (QueueHome row.queue.0)) stamp (λ past. (is_down row.queue.0 past ≡ true) ⊎ (is_closed row.queue.0 past ≡ true)) in (
@@ -102,7 +102,7 @@ module _ (d : Domain) (desk : Desk) (found : FoundRows) (cell : ℕ) (is : IsDes
   full_goes : (queue : QueueId) (n : ℕ) (stamp : Stamp) → Refuses draft.op Block (Queue queue n) stamp new Left → IsWhy d found (reasons.Full queue n) desk → Goes true
   full_goes queue n stamp refuses why =
       let next = refuses.next in
-      let goes = refuse_goes d desk Left new draft.op Block (Queue queue n) stamp is same refuses tt tt tt (λ whole on. why.filled.2 whole on stamp (omega (arith, next))) (λ whole on. tt) reads idle in
+      let goes = refuse_goes d desk Left new draft.op Block (Queue queue n) stamp is same refuses tt tt tt (λ whole on. why.filled.2 whole on stamp (omega (arith, next))) (λ whole on. tt) above idle in
       (goes.0, λ ask valid blocks its_found. goes.1 ask (λ whole on. (valid, sym blocks, no_room ask its_found whole on)))
     where
       no_room : (ask : Ask) → HasFound d ask.service found desk → (whole : Whole) → GoesOn d whole desk → SawNoRoom d.setup d.clients (entries_of whole) stamp desk.caller.work.id.0 ask.service false queue.0 (its_events d desk)
@@ -179,5 +179,5 @@ module _ (d : Domain) (desk : Desk) (found : FoundRows) (entry : Entry Cargo) (i
   pub unsent_goes : IsRead d desk → Leads d desk (record desk { caller = new })
       × ((ask : Ask) → is_invalid_call d.setup ask ≡ false → no_block ≡ ask.flags.no_block → HasFound d ask.service found desk → FitsOn d (desk.caller.op + 1) ask desk (record desk { caller = new }))
   unsent_goes reads =
-      let goes = ends_goes d desk found entry.cargo.ticket.cell is reads (its_ask.service, has) unsent.draft version_is (ap just_in aimed.prepared) new unsent.seat seat_is unsent.back why no_block step reason unsent.ends in
+      let goes = ends_goes d desk found entry.cargo.ticket.cell is reads (its_ask.service, has) unsent.draft version_is (omega (arith, turn_is)) (ap just_in aimed.prepared) new unsent.seat seat_is unsent.back why no_block step reason unsent.ends in
       (goes.0, λ ask valid same_blocks its_found. subst (λ op. FitsOn d op ask desk (record desk { caller = new })) turn_is (goes.1 ask valid same_blocks its_found))

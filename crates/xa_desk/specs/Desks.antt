@@ -1,5 +1,5 @@
 -- A worker's desk: what its passes know of the homes, and what it has shown of all that it noted (this project's own).
-use Rattle.std.specs.Prelude.{◌≡◌, ◌⊎◌, ℕ, zero, suc, ◌+◌, ◌<◌, ◌≤◌, true, List, [], reverse, length, Option, Some, None, slice_index_or}
+use Rattle.std.specs.Prelude.{◌≡◌, ◌⊎◌, ℕ, zero, suc, ◌+◌, ◌<◌, ◌≤◌, true, false, List, [], reverse, length, Option, Some, None, slice_index_or}
 use Rattle.std.specs.List.{All, filter}
 use Rattle.xa_server.specs.xa_types.Configured.{is_configured}
 use Rattle.xa_server.specs.xa_types.Setup.{capacity_of}
@@ -9,7 +9,8 @@ use Rattle.xa_server.specs.xa_events.declared.event.Event.{Event}
 use Rattle.xa_server.specs.xa_events.Board.{boot, published}
 use Rattle.xa_server.specs.xa_events.Homes.{Home, home_of}
 use Rattle.xa_server.specs.xa_events.Homes.Home.{BoardHome, QueueHome, ClockHome}
-use Rattle.xa_server.specs.xa_events.Caller.{tick_floor}
+use Rattle.xa_server.specs.xa_events.Caller.{tick_floor, newest_call}
+use Rattle.xa_server.specs.xa_events.Calls.{awaits_answer}
 use Rattle.xa_server.specs.xa_events.Clock.{now}
 use Rattle.xa_server.specs.xa_events.Local.{worker_events}
 use Rattle.xa_server.specs.xa_events.Words.{AtEach}
@@ -39,6 +40,8 @@ use Rattle.xa_server.specs.xa_held.Visits.{Sees}
 use Rattle.xa_server.specs.xa_worker.Work.{WorkState, theirs}
 use Rattle.xa_server.specs.xa_worker.Going.{FitEach}
 use Rattle.xa_server.specs.xa_caller.declared.cargo.Filling.{Filling}
+use Rattle.xa_server.specs.xa_caller.declared.phase.Phase.{Phase}
+use Rattle.xa_server.specs.xa_caller.declared.phase.Phase.TheVariants.{Sent, Lost}
 use Rattle.xa_server.specs.Told.{HasStamp, FilledByEnds}
 use Rattle.xa_server.specs.Fillings.{AnswersTaken, HasEnd, StandAt}
 use Rattle.xa_desk.specs.declared.domain.Domain.{Domain}
@@ -193,6 +196,13 @@ pub record Leads (d : Domain) (old new : Desk) : Type 0 where
   pub before : (whole : Whole) → GoesOn d whole new → GoesOn d whole old
   pub stamp : old.caller.work.stamp.0 ≤ new.caller.work.stamp.0
 
--- each event of a call that the worker noted is one of the call with its number, of these that it makes
-abbrev pub FitsCalls : Domain → List Op → Desk → Type 0
-FitsCalls d ops desk = (whole : Whole) → GoesOn d whole desk → FitEach d.setup d.clients (entries_of whole) desk.caller.work.id.0 ops desk.caller.work.own
+-- between its calls the worker awaits the answer of none, of these that it makes; while it awaits one, or where one was lost, nothing is said
+abbrev pub IsOver : Phase → List Op → Option Event → Type 0
+IsOver (Sent sent) ops newest = Unit {0}
+IsOver (Lost request) ops newest = Unit {0}
+IsOver phase ops newest = awaits_answer ops newest ≡ false
+
+-- each event of a call that the worker noted is one of the call with its number, of these that it makes, and between its calls the last is over
+pub record FitsCalls (d : Domain) (ops : List Op) (desk : Desk) : Type 0 where
+  pub each : (whole : Whole) → GoesOn d whole desk → FitEach d.setup d.clients (entries_of whole) desk.caller.work.id.0 ops desk.caller.work.own
+  pub over : IsOver desk.caller.phase ops (newest_call desk.caller.work.id.0 (worker_events d.clients desk.caller.work.id.0 (past_in desk.caller.work.own)))

@@ -2,6 +2,7 @@
 use Rattle.std.specs.Prelude.{◌≡◌, ℕ, ◌+◌, ◌<◌, ◌≤◌, ◌^◌, true, false, List, length}
 use Rattle.std.specs.List.{All, Contains}
 use Rattle.xa_server.specs.xa_types.declared.data.Data.{Data}
+use Rattle.xa_server.specs.xa_types.declared.ids.RequestId.{RequestId}
 use Rattle.xa_server.specs.xa_types.declared.row.Row.{Row}
 use Rattle.xa_server.specs.xa_types.declared.stamp.Stamp.{Stamp}
 use Rattle.xa_server.specs.xa_types.Found.{FoundRows}
@@ -23,7 +24,7 @@ use Rattle.xa_server.specs.xa_caller.declared.outcomes.Aimed.{Aimed}
 use Rattle.xa_server.specs.xa_caller.declared.outcomes.Aimed.TheVariants as aims
 use Rattle.xa_server.specs.xa_caller.declared.phase.Draft.{Draft}
 use Rattle.xa_server.specs.xa_caller.declared.phase.Phase.TheVariants.{Prepared}
-use Rattle.xa_server.specs.xa_caller.Caller.{AreRowsOf}
+use Rattle.xa_server.specs.xa_caller.Caller.{CallerState, AreRowsOf}
 use Rattle.xa_server.specs.xa_caller.Drafts.{Cargo, accepted_by, entry_by}
 use Rattle.xa_desk.specs.declared.domain.Domain.{Domain}
 use Rattle.xa_desk.specs.declared.desk.Desk.{Desk}
@@ -60,12 +61,17 @@ pub record HasFound (d : Domain) (service : List ℕ) (found : FoundRows) (desk 
   pub stand : (payload : Data) → All (λ (row : Row). is_accepted d.setup row.accepts (kind_of payload) ≡ true
       → SawOnBoard d desk (RowStands d.setup found.version service row.queue.0 (RowAdmits d.setup false row.routine payload))) found.rows
 
+-- the caller's next request
+abbrev pub next_request : CallerState → RequestId
+next_request c = record { caller = c.work.id; number = c.sent + 1 }
+
 -- a request that was prepared is aimed by one of the rows that were found, and its entry and the event that brings it say so, with the priority that
 -- its caller set
 pub record IsAimed (d : Domain) (found : FoundRows) (payload : Data) (entry : Entry Cargo) (event : Event) (desk : Desk) : Type 0 where
   pub draft : Draft
   pub prepared : desk.caller.phase ≡ Prepared draft
   pub drafted : draft.event.value ≡ event
+  pub mine : draft.asked.request ≡ next_request desk.caller
   pub turn : draft.op ≡ desk.caller.op + 1
   pub version : draft.version ≡ found.version
   pub sound : is_sound d.setup payload ≡ true

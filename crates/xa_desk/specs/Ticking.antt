@@ -1,4 +1,4 @@
--- How a client moves the clock on (this project's own).
+-- How a worker reads the clock, and a client moves it on (this project's own).
 use Rattle.std.specs.Prelude.{◌≡◌, ℕ, ◌+◌, ◌<◌, ◌^◌, true, false, Result, Ok, Err}
 use Rattle.xa_server.specs.xa_types.declared.fault.Fault.{Fault}
 use Rattle.xa_server.specs.xa_types.declared.fault.Fault.TheVariants as faults
@@ -16,6 +16,7 @@ use Rattle.xa_ticks.specs.declared.clock.TickRefused.TheVariants as refusals
 use Rattle.xa_desk.specs.declared.domain.Domain.{Domain}
 use Rattle.xa_desk.specs.declared.desk.Desk.{Desk}
 use Rattle.xa_desk.specs.Advertising.{HasSeen}
+use Rattle.xa_desk.specs.Serving.{Sees}
 use Rattle.xa_desk.specs.Desks.{Leads, clock_page, shown_to}
 
 -- the worker went on, and visited nothing but the clock
@@ -25,6 +26,12 @@ pub record MovesAtClock (d : Domain) (old new : Desk) : Type 0 where
   pub board : new.board ≡ old.board
   pub queues : new.queues ≡ old.queues
   pub reader : new.reader ≡ old.reader
+
+-- the clock showed that tick, and nothing was noted
+pub record ReadsClock (d : Domain) (tick : ℕ) (old new : Desk) : Type 0 where
+  pub moves : MovesAtClock d old new
+  pub shows : tick ≡ shown_to new
+  pub sees : Sees old.caller new.caller
 
 -- a clock that shows that tick isn't moved on by so many
 abbrev pub BarsTick : ℕ → TickRefused → ℕ → Type 0

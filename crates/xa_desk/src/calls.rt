@@ -1,29 +1,31 @@
-// The steps of a tpcall.
+// The steps of a tpcall and of a tpacall.
 ghost use Rattle.std.specs.Prelude.{◌≡◌, ℕ, List, ◌+◌, ◌≤◌, ◌<◌, ◌^◌, true, false, IfOk, IfErr, OnOk, OnErr};
 ghost use Rattle.xa_server.specs.xa_types.declared.call.Ask.{Ask as Asked};
+ghost use Rattle.xa_server.specs.xa_types.declared.call.Op.TheVariants.{Call};
 ghost use Rattle.xa_server.specs.xa_events.Calls.{is_invalid_call};
-ghost use Rattle.xa_server.specs.xa_types.declared.stamp.Stamp.{Stamp};
+ghost use Rattle.xa_server.specs.xa_events.Caller.{is_client};
+ghost use Rattle.xa_server.specs.xa_types.declared.stamp.Stamp.{Stamp as StampOf};
 ghost use Rattle.xa_server.specs.xa_events.declared.event.Event.{Event as Accepting};
 ghost use Rattle.xa_server.specs.xa_caller.declared.phase.Phase.TheVariants as phases;
 ghost use Rattle.xa_server.specs.xa_caller.Caller.{MayCall};
-ghost use Rattle.xa_server.specs.xa_caller.Changes.{Prepares, StopsAs, Sends, StepsAs};
-ghost use Rattle.xa_server.specs.xa_caller.Phases.{IsSent};
+ghost use Rattle.xa_server.specs.xa_caller.Changes.{Prepares, StopsAs, StepsAs};
+ghost use Rattle.xa_server.specs.xa_caller.Phases.{IsPrepared, IsSent};
 ghost use Rattle.xa_server.specs.xa_caller.Unsent.{ChecksAs, AimsAs, UnsentAs};
 ghost use Rattle.xa_server.specs.xa_worker.Work.{seeing};
 ghost use Rattle.xa_desk.specs.Desks.{IsDomain, IsDesk, Leads};
 ghost use Rattle.xa_desk.specs.Found.{HasFound, IsAimed, StillAimed, ShowsWhy, IsAccept, queue_in};
 ghost use Rattle.xa_desk.specs.Looks.{SeesWhy};
-ghost use Rattle.xa_desk.specs.Steps.{FitsOn, IsWhy};
+ghost use Rattle.xa_desk.specs.Steps.{FitsOn, FitsOp, IsWhy, SentBy, ask_by};
 
 use crate::desk::Desk;
 use crate::domain::Domain;
 use crate::visit::{enter, leave};
 use std::alloc::Global;
 use std::sync::Wait;
-use xa_server::caller::{Aimed, Cargo, Note, Prepared, Step, Stop, Why};
+use xa_server::caller::{Aimed, Caller, Cargo, Note, Prepared, Step, Stop, Why};
 use xa_server::events::Event;
 use xa_server::queue::{Entry, PutRefused, Refusal};
-use xa_server::types::{Ask, Kind, Name, QueueId};
+use xa_server::types::{Ask, Kind, Name, QueueId, Stamp};
 
 // The queue that the event sends a request to.
 fn queue_of(event: &Event) -> QueueId
@@ -36,6 +38,22 @@ fn queue_of(event: &Event) -> QueueId
     }
 }
 
+// Its request was accepted with that stamp.
+fn mark_sent(caller: &mut Caller, note: Note, stamp: Stamp, apart: bool)
+    requires active { MayCall caller.old }
+    requires client { apart ≡ true → is_client caller.old.work.clients caller.old.work.id.0 ≡ true }
+    requires prepared { IsPrepared caller.old.phase }
+    requires later { caller.old.work.stamp.0 < stamp.0 }
+    requires bound { stamp.0 ≤ 2 ^ 63 }
+    ensures { SentBy apart stamp caller.new caller.old }
+{
+    if apart {
+        caller.sent_apart(note, stamp);
+    } else {
+        caller.sent(note, stamp);
+    }
+}
+
 /// A request that its queue didn't take.
 pub struct Unsent {
     pub queue: QueueId,
@@ -45,7 +63,7 @@ pub struct Unsent {
 }
 
 impl Desk {
-    /// The service of its caller's next call, a tpcall, unless TPEINVAL refuses that, as `check` of a caller.
+    /// The service of its caller's next call, a tpcall or a tpacall, unless TPEINVAL refuses that, as `check` of a caller.
     pub fn check(&mut self, domain: &Domain, op: u32, ask: &Ask) -> Result<Name, Stop>
         requires domain { IsDomain domain.now }
         requires desk { IsDesk domain.now self.old }
@@ -97,23 +115,25 @@ impl Desk {
         )
     }
 
-    /// Puts the request that was prepared on the queue that it is aimed at. Where that takes it, its caller sent it; else it
-    /// comes back, and the worker saw the queue's stamp.
+    /// Puts the request that was prepared on the queue that it is aimed at. Where that takes it, its caller sent it, by a client's
+    /// tpacall or by a tpcall; else it comes back, and the worker saw the queue's stamp.
     pub fn send<W: Wait>(
         &mut self,
         rt: &W,
         domain: &Domain,
         prepared: Prepared,
+        apart: bool,
     ) -> Result<QueueId, Unsent>
         requires domain { IsDomain domain.now }
         requires desk { IsDesk domain.now self.old }
         requires active { MayCall self.old.caller }
+        requires client { apart ≡ true → is_client self.old.caller.work.clients self.old.caller.work.id.0 ≡ true }
         requires found { (ask : Asked) × (is_invalid_call domain.now.setup ask ≡ false) × HasFound domain.now ask.service self.old.reader.found self.old
             × IsAimed domain.now self.old.reader.found ask.payload prepared.entry prepared.event self.old }
         ensures leads { Leads domain.now self.old self.new }
-        ensures sent { OnOk result ((stamp : Stamp) × Sends stamp self.new.caller self.old.caller) }
+        ensures sent { OnOk result ((stamp : StampOf) × SentBy apart stamp self.new.caller self.old.caller) }
         ensures fits { (ask : Asked) → is_invalid_call domain.now.setup ask ≡ false → HasFound domain.now ask.service self.old.reader.found self.old → IsAimed domain.now self.old.reader.found ask.payload prepared.entry prepared.event self.old
-            → FitsOn domain.now (self.old.caller.op + 1) ask self.old self.new }
+            → FitsOp domain.now (self.old.caller.op + 1) (ask_by apart ask) self.old self.new }
         ensures reader { self.new.reader ≡ self.old.reader }
         ensures board { self.new.board ≡ self.old.board }
         ensures queue { IfOk result (λ queue. queue.0 ≡ queue_in prepared.event) }
@@ -132,7 +152,7 @@ impl Desk {
         let last = leave(domain, &mut self.queues, visit);
         match answer {
             Ok(stamp) => {
-                self.caller.sent(note, stamp);
+                mark_sent(&mut self.caller, note, stamp, apart);
                 Ok(queue)
             }
             Err(refused) => {
@@ -206,7 +226,7 @@ impl Desk {
         ensures leads { Leads domain.now self.old self.new }
         ensures step { StepsAs expect.now result self.new.caller self.old.caller }
         ensures rest { self.new ≡ record self.old { caller = self.new.caller } }
-        ensures fits { (ask : Asked) → expect.now ≡ ask.expect → FitsOn domain.now self.old.caller.op ask self.old self.new }
+        ensures fits { (ask : Asked) → expect.now ≡ ask.expect → FitsOp domain.now self.old.caller.op (Call ask) self.old self.new }
     {
         let _itself = self.caller.id();
         self.caller.call_reply(&domain.cells, expect)

@@ -25,14 +25,13 @@ pub struct Done {
 }
 
 impl Desk {
-    /// Its caller leaves, behind its last call: a client notes that.
+    /// Its caller leaves, behind its last call, and gives up what is out: a client notes both.
     pub fn leave(self, domain: &Domain) -> Done
         requires domain { IsDomain domain.now }
         requires desk { IsDesk domain.now self }
         requires idle { self.caller.phase ≡ phases.Idle }
-        ensures left { (ended : Ended) × IsLeft result ended × Leads domain.now self ended × LeavesAs result.left.halt ended.caller.work self.caller.work × FitsStill domain.now self ended }
+        ensures left { (ended : Ended) × IsLeft result ended × Leads domain.now self ended × LeavesAs self.caller.out result.left.halt ended.caller.work self.caller.work × FitsStill domain.now self ended × (ended.caller.phase ≡ phases.Idle) }
     {
-        let _ = domain;
         let Desk {
             caller,
             reader,
@@ -40,7 +39,7 @@ impl Desk {
             queues,
             clock,
         } = self;
-        let left = caller.leave();
+        let left = caller.leave(&domain.cells);
         Done {
             left,
             reader,
@@ -56,7 +55,7 @@ impl Desk {
         requires desk { IsDesk domain.now self }
         requires out { IsPrepared self.caller.phase → ⊥ }
         ensures left { (ended : Ended) × IsLeft result ended × Leads domain.now self ended × (ended.caller.work ≡ self.caller.work) × (result.left.halt ≡ None)
-            × FillsNoMore (known self.caller.seat) (known ended.caller.seat) }
+            × FillsNoMore (known self.caller.seat) (known ended.caller.seat) × (ended.caller.phase ≡ self.caller.phase) }
     {
         let Desk {
             caller,

@@ -10,6 +10,7 @@ mod clearing;
 mod departure;
 mod desk;
 mod domain;
+mod getting;
 mod halting;
 mod monitor;
 mod passing;

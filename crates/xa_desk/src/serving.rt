@@ -15,7 +15,7 @@ ghost use Rattle.xa_server.specs.Noting.{HaltsWith, IsWorn};
 ghost use Rattle.xa_server.specs.Served.{Tries, Counts, Halts};
 ghost use Rattle.xa_server.specs.Told.{GivenAs};
 ghost use Rattle.xa_server.specs.xa_events.Cases.{IsShut};
-ghost use Rattle.xa_desk.specs.Desks.{IsDomain, IsDesk, Leads};
+ghost use Rattle.xa_desk.specs.Desks.{IsDomain, IsDesk, Leads, shown_to};
 ghost use Rattle.xa_desk.specs.Found.{SawAtQueue};
 ghost use Rattle.xa_desk.specs.Serving.{IsServing, TakesAs, LeavesAs, IsDeserted, IsCleared, IsFallen, OfDomain, IsToTell, SweepsAs, IsAtEnd};
 
@@ -45,7 +45,7 @@ pub enum Took {
 }
 
 impl Desk {
-    /// Starts the next life of its server, as `start` of what serves it. The clock stands at 0.
+    /// Starts the next life of its server, as `start` of what serves it, at the tick that the clock showed the worker last.
     pub fn start<L: Link, T: Starter<L>>(
         &mut self,
         alloc: Global,
@@ -56,7 +56,7 @@ impl Desk {
     ) -> Result<Option<Life<L>>, Halt>
         requires domain { (queue : ℕ) × IsDomain domain.now × IsDesk domain.now self.old × IsServing domain.now queue served.old.slot self.old }
         requires own { name.now ≡ (T.shows served.old.starter).name }
-        requires may { MayStart tick served.old.slot self.old.caller.work × (tick ≡ 0) }
+        requires may { MayStart tick served.old.slot self.old.caller.work × (tick ≡ shown_to self.old) }
         ensures leads { Leads domain.now self.old self.new }
         ensures serving { (queue : ℕ) → IsServing domain.now queue served.old.slot self.old → IsServing domain.now queue served.new.slot self.new }
         ensures tried { IfOk result (λ life. Tries name.now tick life served.new.slot served.old.slot self.new.caller.work self.old.caller.work) }

@@ -1,16 +1,17 @@
-// A client moves the clock on.
-ghost use Rattle.std.specs.Prelude.{◌≡◌, ◌+◌, true, Ok, IfOk, IfErr, OnOk, OnErr};
+// A worker reads the clock, and a client moves it on.
+ghost use Rattle.std.specs.Prelude.{◌≡◌, ◌+◌, ℕ, true, Ok, IfOk, IfErr, OnOk, OnErr};
 ghost use Rattle.xa_server.specs.xa_types.declared.stamp.Stamp.{Stamp as Stamped};
 ghost use Rattle.xa_server.specs.xa_types.declared.call.Op.TheVariants.{Tick};
 ghost use Rattle.xa_server.specs.xa_events.Caller.{is_client};
 ghost use Rattle.xa_server.specs.xa_caller.Caller.{MayCall};
 ghost use Rattle.xa_server.specs.xa_caller.declared.phase.Phase.TheVariants as phases;
 ghost use Rattle.xa_server.specs.xa_worker.Work.{HaltsAt, seeing};
+ghost use Rattle.xa_server.specs.declared.slot.ServerSlot.{ServerSlot as Slot};
 ghost use Rattle.xa_desk.specs.Advertising.{HasSeen};
 ghost use Rattle.xa_desk.specs.Desks.{IsDomain, IsDesk, Leads, shown_to};
-ghost use Rattle.xa_desk.specs.Serving.{IsHaltNear, seen_by};
+ghost use Rattle.xa_desk.specs.Serving.{IsHaltNear, IsServing, seen_by};
 ghost use Rattle.xa_desk.specs.Steps.{FitsOp};
-ghost use Rattle.xa_desk.specs.Ticking.{BarsTick, MovesAtClock, RefusesTick, TickRefusedBy, TicksAs, tick_halt};
+ghost use Rattle.xa_desk.specs.Ticking.{BarsTick, MovesAtClock, ReadsClock, RefusesTick, TickRefusedBy, TicksAs, tick_halt};
 
 use crate::desk::Desk;
 use crate::domain::Domain;
@@ -19,7 +20,7 @@ use std::sync::Wait;
 use xa_server::events::Evidence;
 use xa_server::types::{Fault, Stamp};
 use xa_server::work::Halt;
-use xa_ticks::{AtClock, TickRefused, tick_at};
+use xa_ticks::{AtClock, TickRefused, read_at, tick_at};
 
 // The stamp that was seen there where the clock wasn't moved: the last one, or where stamps came to their end that.
 fn seen_at(refused: &TickRefused, last: Stamp) -> Stamp
@@ -32,6 +33,18 @@ fn seen_at(refused: &TickRefused, last: Stamp) -> Stamp
 }
 
 impl Desk {
+    /// What the clock shows.
+    pub fn read_clock<W: Wait>(&mut self, rt: &W, domain: &Domain) -> u64
+        requires desk { IsDesk domain.now self.old }
+        ensures reads { ReadsClock domain.now result self.old self.new }
+        ensures serving { (queue : ℕ) (slot : Slot) → IsServing domain.now queue slot self.old → IsServing domain.now queue slot self.new }
+    {
+        let AtClock { pass, last, answer } = read_at(rt, &domain.clock, take_out(&mut self.clock));
+        self.clock = Some(pass);
+        self.caller.saw(last);
+        answer
+    }
+
     // Its caller's next call, that of a client, moves the clock on. Answers what it shows then. Where that is refused the clock's
     // last stamp was seen, or that at which stamps came to their end.
     fn move_clock<W: Wait>(

@@ -58,7 +58,7 @@ module _ {d : Domain} {old new : Desk} (given : IsGivenUp d old new) where
   calls_still ops made = record {
     last = subst (λ (w : WorkState). last_op w.id.0 (theirs w) ≡ length ops) (sym given.work) made.last;
     over = subst (λ (w : WorkState). just_accepted w.id.0 (theirs w) ≡ None) (sym given.work) made.over;
-    fits = given_up_fits d old new given.leads given.work ops made.fits;
+    fits = given_up_fits d old new given.leads given.work given.phase ops made.fits;
   }
 
   module _ (queue server : ℕ) where

@@ -13,6 +13,7 @@ use Rattle.xa_boot.specs.xa_worker.contracts.work.Work as Work
 use Rattle.xa_boot.proofs.xa_worker.work.Halt.TheSendSync as halt
 use Rattle.xa_boot.specs.xa_caller.contracts.cargo.Filling as Filling
 use Rattle.xa_boot.proofs.xa_caller.cargo.Filling.TheSendSync as filling
+use Rattle.xa_boot.proofs.xa_caller.descriptors.Descriptors.TheSendSync as descriptors
 use Rattle.xa_boot.specs.xa_caller.contracts.phase.Phase as Phase
 use Rattle.xa_boot.specs.xa_caller.contracts.caller.Caller as Caller
 use Rattle.xa_boot.specs.xa_caller.contracts.caller.Left as Left
@@ -74,7 +75,7 @@ phase_field : IsSend (Phase.the_field).row
 phase_field = search (sendable, crosses) depth 40 fits 20000
 
 caller_sends : IsSend Caller.the_row
-caller_sends = search (sendable, crosses, work_sends, seat_field, phase_field) depth 30 fits 4000
+caller_sends = search (sendable, crosses, work_sends, seat_field, descriptors.the_send, phase_field) depth 30 fits 4000
 
 left_field : IsSend (Left.the_field).row
 left_field = struct_send (declared.shape Left.the_type) (work_sends, (seat_field, (search (sendable, crosses, halt.the_send) depth 40 fits 20000, tt)))

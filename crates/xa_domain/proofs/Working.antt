@@ -1,5 +1,11 @@
 -- What workers are behind their work, from how they began.
 use Rattle.std.proofs.Common.{◌≡◌, ℕ, suc, ◌+◌, ◌<◌, ◌≤◌, List, [], ◌∷◌, length, get_or, Option, Some, None, refl, sym, ◌∙◌, ap, subst, arith}
+use Rattle.xa_boot.specs.xa_caller.declared.phase.Phase.TheVariants.{Idle, Prepared, Sent, Lost}
+use Rattle.xa_boot.specs.xa_caller.declared.phase.Phase.{Phase}
+use Rattle.xa_boot.specs.xa_worker.Seen.{past_in}
+use Rattle.xa_boot.specs.xa_events.Local.{worker_events}
+use Rattle.xa_boot.specs.xa_events.Calls.{awaits_answer}
+use Rattle.xa_boot.specs.xa_events.Caller.{newest_call}
 use Rattle.std.specs.List.{All}
 use Rattle.std.proofs.lemmas.List.Elements.{All-weaker}
 use Rattle.xa_boot.specs.xa_types.declared.call.Op.{Op}
@@ -19,7 +25,7 @@ use Rattle.xa_history.specs.xa_script.declared.script.Client.{Client}
 use Rattle.xa_boot.specs.xa_server.Served.{StarterShows}
 use Rattle.xa_boot.specs.xa_desk.declared.domain.Domain.{Domain}
 use Rattle.xa_boot.specs.xa_desk.declared.desk.Desk.{Desk}
-use Rattle.xa_boot.specs.xa_desk.Desks.{FitsCalls, IsThere, IsBoardPass, IsAmong, page_in}
+use Rattle.xa_boot.specs.xa_desk.Desks.{FitsCalls, IsThere, IsBoardPass, IsAmong, page_in, IsOver as HasNone}
 use Rattle.xa_boot.specs.xa_desk.Made.{IsMade}
 use Rattle.xa_boot.specs.xa_desk.Whole.{entries_of}
 use Rattle.xa_boot.specs.xa_client_worker.declared.working.ClientWorker.{ClientWorker}
@@ -33,6 +39,17 @@ use Rattle.xa_boot.specs.Booting.{IsNewClient, IsNewServer, IsNewCloser, IsBoots
 use Rattle.xa_domain.specs.Working.{IsDone, EachDone, IsOver}
 use Rattle.xa_domain.specs.Closing.{IsCloser, ShowsFor}
 
+-- none is made so far
+none_newest : (caller : ℕ) → newest_call caller [] ≡ None
+unfolding newest_call
+none_newest caller = refl
+
+no_call : (phase : Phase) (ops : List Op) {newest : Option Event} → newest ≡ None → HasNone phase ops newest
+no_call Idle ops none = ap (awaits_answer ops) none
+no_call (Prepared draft) ops none = ap (awaits_answer ops) none
+no_call (Sent sent) ops none = tt
+no_call (Lost request) ops none = tt
+
 module _ (d : Domain) where
   pub may_work : (client : ℕ) (worker : ClientWorker) → IsNewClient d client worker → MayWork d worker
   may_work client (workers.Ready desk) is = is.0
@@ -41,7 +58,10 @@ module _ (d : Domain) where
 
   -- where nothing was noted, it fits any calls
   fits_none : (ops : List Op) (desk : Desk) → desk.caller.work.own ≡ [] → FitsCalls d ops desk
-  fits_none ops desk none whole on = subst (FitEach d.setup d.clients (entries_of whole) desk.caller.work.id.0 ops) (sym none) tt
+  fits_none ops desk none = record {
+    each = λ whole on. subst (FitEach d.setup d.clients (entries_of whole) desk.caller.work.id.0 ops) (sym none) tt;
+    over = no_call desk.caller.phase ops (subst (λ (l : List Stamped). newest_call desk.caller.work.id.0 (worker_events d.clients desk.caller.work.id.0 (past_in l)) ≡ None) (sym {A = List Stamped} none) (none_newest desk.caller.work.id.0));
+  }
 
   pub is_done : (client : ℕ) (ops : List Op) (old new : ClientWorker) → IsNewClient d client old → HasWorked d ops (length ops) old new → IsDone d client ops new
   is_done client ops (workers.Ready desk) (workers.Left ended) is worked =

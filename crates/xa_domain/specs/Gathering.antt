@@ -116,6 +116,7 @@ pub record KeepsServers {L T : Type 0} (old new : Gathered L T) : Type 0 where
 pub record IsGivenUp (d : Domain) (old new : Desk) : Type 0 where
   pub leads : Leads d old new
   pub work : new.caller.work ≡ old.caller.work
+  pub phase : new.caller.phase ≡ old.caller.phase
   pub fills : FillsNoMore (known old.caller.seat) (known new.caller.seat)
 
 module _ {L T : Type 0} (d : Domain) (shows : T → StarterShows) where

@@ -5,7 +5,7 @@ use mathlib.Core.Path.{fun_ext}
 use Rattle.xa_client_worker.specs.xa_types.declared.call.Op.{Op}
 use Rattle.xa_client_worker.specs.xa_types.Setup.{numbered}
 use Rattle.xa_client_worker.specs.xa_events.Calls.{MadeCalls, awaits_answer}
-use Rattle.xa_client_worker.specs.xa_events.Caller.{accepted_in, just_accepted, last_op, newest_call, op_of}
+use Rattle.xa_client_worker.specs.xa_events.Caller.{accepted_in, last_op, newest_call, op_of}
 use Rattle.xa_client_worker.specs.xa_events.declared.event.Event.{Event}
 use Rattle.xa_client_worker.specs.xa_events.declared.event.Event.TheVariants.{Accept}
 use Rattle.xa_client_worker.specs.xa_events.Homes.{Home}
@@ -44,7 +44,7 @@ pub made_own : (d : Domain) (b : Back) (domain : WorkState) (desks : List Desk) 
     → MadeOwn d.setup d.clients (λ home. noted_in (kept_of b home)) caller ops (noted_of domain desks caller)
 made_own d b domain desks all caller desk there ops fits whole over =
     let own : List Stamped = desk.caller.work.own in
-    let fit : FitEach d.setup d.clients (entries_of (whole_of d b)) caller ops own = subst (λ (n : ℕ). FitEach d.setup d.clients (entries_of (whole_of d b)) n ops own) (all.ids caller desk there) (fits (whole_of d b) (one_goes_on d b domain desks all caller desk there)) in
+    let fit : FitEach d.setup d.clients (entries_of (whole_of d b)) caller ops own = subst (λ (n : ℕ). FitEach d.setup d.clients (entries_of (whole_of d b)) n ops own) (all.ids caller desk there) (fits.each (whole_of d b) (one_goes_on d b domain desks all caller desk there)) in
     subst (MadeOwn d.setup d.clients (λ home. noted_in (kept_of b home)) caller ops) (sym (noted_is domain desks caller desk there)) (record {
       all = whole;
       each = subst (λ (entries : Home → List Stamped). FitEach d.setup d.clients entries caller ops own) (fun_ext (same_homes d b)) fit;
@@ -52,7 +52,7 @@ made_own d b domain desks all caller desk there ops fits whole over =
     })
 
 -- where nothing was just accepted, no answer is to come
-over_now : (ops : List Op) (newest : Option Event) → accepted_in newest ≡ None → awaits_answer ops newest ≡ false
+pub over_now : (ops : List Op) (newest : Option Event) → accepted_in newest ≡ None → awaits_answer ops newest ≡ false
 over_now ops None is = refl
 over_now ops (Some (Accept a)) is = absurd (cc is)
 over_now ops (Some _) is = refl
@@ -60,8 +60,8 @@ over_now ops (Some _) is = refl
 -- a caller that came to the last of its calls made them in the merge
 pub made_in_merge : (d : Domain) (b : Back) (domain : WorkState) (desks : List Desk) → AllLeft d b domain desks → (homes : List Notes) (events : List Event) → HoldAll d b homes → IsMerged homes events
     → (caller : ℕ) (desk : Desk) → numbered caller desks ≡ Some desk → (ops : List Op) → FitsCalls d ops desk
-    → last_op desk.caller.work.id.0 (theirs desk.caller.work) ≡ length ops → just_accepted desk.caller.work.id.0 (theirs desk.caller.work) ≡ None → MadeCalls d.setup d.clients caller ops (reverse events)
-made_in_merge d b domain desks all homes events hold merged caller desk there ops fits last accepted =
+    → last_op desk.caller.work.id.0 (theirs desk.caller.work) ≡ length ops → awaits_answer ops (newest_call desk.caller.work.id.0 (worker_events d.clients desk.caller.work.id.0 (past_in desk.caller.work.own))) ≡ false → MadeCalls d.setup d.clients caller ops (reverse events)
+made_in_merge d b domain desks all homes events hold merged caller desk there ops fits last over =
     let id : desk.caller.work.id.0 ≡ caller = all.ids caller desk there in
     let same : theirs desk.caller.work ≡ worker_events d.clients caller (past_in desk.caller.work.own) = its_theirs d b domain desks all caller desk there in
     let newest : newest_call desk.caller.work.id.0 (theirs desk.caller.work) ≡ newest_call caller (worker_events d.clients caller (past_in desk.caller.work.own)) = ap (λ (n : ℕ). newest_call n (theirs desk.caller.work)) id ∙ ap (newest_call caller) same in
@@ -69,4 +69,4 @@ made_in_merge d b domain desks all homes events hold merged caller desk there op
     (numbered_within caller desks desk there).0 (is_worker d b domain desks all caller desk there) ops
     (made_own d b domain desks all caller desk there ops fits
     (subst (λ (o : Option Event). op_of o ≡ length ops) newest last)
-    (over_now ops (newest_call caller (worker_events d.clients caller (past_in desk.caller.work.own))) (subst (λ (o : Option Event). accepted_in o ≡ None) newest accepted)))
+    (subst (λ (n : ℕ). awaits_answer ops (newest_call n (worker_events d.clients n (past_in desk.caller.work.own))) ≡ false) id over))

@@ -1,5 +1,7 @@
 -- The merge of all homes is one history, where the run came to its end.
 use Rattle.std.proofs.Common.{◌≡◌, ◌⊎◌, ℕ, zero, suc, ◌+◌, ◌<◌, ◌≤◌, true, List, [], ◌∷◌, length, map, reverse, Option, Some, None, option_map, inl, inr, refl, sym, ◌∙◌, ap, subst, arith, add-one, eq-eqb}
+use Rattle.xa_client_worker.specs.xa_caller.declared.phase.Phase.{Phase}
+use Rattle.xa_client_worker.specs.xa_desk.Desks.{IsOver}
 use Rattle.std.specs.Prelude.{IsSomeAnd, ⊤}
 use Rattle.std.specs.List.{Contains}
 use Rattle.std.proofs.lemmas.Bool.{cases_eq}
@@ -9,7 +11,7 @@ use Rattle.xa_client_worker.specs.xa_types.declared.call.Op.{Op}
 use Rattle.xa_client_worker.specs.xa_types.declared.stamp.Stamp.{Stamp}
 use Rattle.xa_client_worker.specs.xa_types.Setup.{numbered, queue_of}
 use Rattle.xa_client_worker.specs.xa_events.declared.event.Event.{Event}
-use Rattle.xa_client_worker.specs.xa_events.Caller.{has_left, is_leave_of}
+use Rattle.xa_client_worker.specs.xa_events.Caller.{has_left, is_leave_of, newest_call}
 use Rattle.xa_client_worker.specs.xa_events.Calls.{MadeCalls}
 use Rattle.xa_client_worker.specs.xa_events.Cases.{HomePart, IsShut}
 use Rattle.xa_client_worker.specs.xa_events.Homes.{Home}
@@ -103,7 +105,7 @@ module _ (d : Domain) (b : Back) (domain : WorkState) (desks : List Desk) (all :
       ap (λ n. worker_events n desk.caller.work.id.0 (past_in entries)) (desk_has_left d b domain desks all worker desk there).is.clients
       ∙ (ap (λ n. worker_events d.clients n (past_in entries)) (all.ids worker desk there) ∙ ap (λ (l : List Stamped). worker_events d.clients worker (past_in l)) (sym (noted_is domain desks worker desk there)))
 
-  client_left : (client : ℕ) (desk : Desk) (made : ℕ) → numbered client desks ≡ Some desk → HasMade made desk.caller.work → has_left client (own client) ≡ true
+  client_left : (client : ℕ) (desk : Desk) (made : ℕ) → numbered client desks ≡ Some desk → HasMade made desk → has_left client (own client) ≡ true
   client_left client desk made there has =
       let leaves = left_among client desk.caller.work.own _ has.left (eq-eqb desk.caller.work.id.0 client (all.ids client desk there)) in
       left_own d.setup d.clients (past_in (noted client)) client ∙ (ap (λ (l : List Stamped). has_left client (past_in l)) (noted_is domain desks client desk there) ∙ leaves)
@@ -241,7 +243,7 @@ module _ (d : Domain) (b : Back) (domain : WorkState) (desks : List Desk) (serve
     made_its_calls client ops some low made =
         let all = ends.left in
         let its = is_some (HasMadeAll d ops) (numbered client desks) made in
-        made_in_merge d b domain desks all homes events ends.homes_are merged client its.0 its.1 ops its.2.fits its.2.made.last its.2.made.over
+        made_in_merge d b domain desks all homes events ends.homes_are merged client its.0 its.1 ops its.2.fits its.2.made.last (subst (λ (p : Phase). IsOver p ops (newest_call its.0.caller.work.id.0 (worker_events d.clients its.0.caller.work.id.0 (past_in its.0.caller.work.own)))) its.2.made.idle its.2.fits.over)
 
     pub is_history : (clients : List Client) → calls ≡ map (λ (c : Client). c.ops) clients → IsHistory d.setup clients events
     is_history clients are =

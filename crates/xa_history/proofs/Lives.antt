@@ -1,10 +1,10 @@
 -- A life of a server, by its worker's own list, in the run.
-use Rattle.std.proofs.Common.{◌≡◌, ℕ, ◌+◌, ◌<◌, true, List, ◌++◌, map, reverse, append-nil, sym, ◌∙◌, ap, subst, arith}
+use Rattle.std.proofs.Common.{◌≡◌, ℕ, ◌<◌, true, List, ◌++◌, map, reverse, append-nil, sym, ◌∙◌, ap, subst, arith, None}
 use Rattle.std.specs.List.{All}
 use Rattle.std.proofs.lemmas.List.{length-map}
 use Rattle.std.proofs.lemmas.List.Elements.{All-weaker}
 use Rattle.xa_client_worker.specs.xa_types.Setup.{queue_of}
-use Rattle.xa_client_worker.specs.xa_events.Caller.{is_call_of}
+use Rattle.xa_client_worker.specs.xa_events.Caller.{is_call_of, accepted_in, newest_call}
 use Rattle.xa_client_worker.specs.xa_events.Calls.{MadeCalls}
 use Rattle.xa_client_worker.specs.xa_events.Cases.{IsShut}
 use Rattle.xa_client_worker.specs.xa_events.declared.event.Event.{Event}
@@ -19,7 +19,7 @@ use Rattle.xa_client_worker.specs.xa_stamp.declared.home.Stamped.{Stamped}
 use Rattle.xa_client_worker.specs.xa_stamp.Home.{Notes}
 use Rattle.xa_client_worker.specs.xa_stamp.Merge.{IsMerged}
 use Rattle.xa_client_worker.specs.xa_lock.Makers.{noted_in}
-use Rattle.xa_client_worker.specs.xa_worker.Seen.{SawFront, SawQueue}
+use Rattle.xa_client_worker.specs.xa_worker.Seen.{SawFront, SawQueue, past_in}
 use Rattle.xa_client_worker.proofs.xa_worker.Calls.{call_of_worker}
 use Rattle.xa_client_worker.specs.xa_pipe.declared.turn.Turn.TheVariants.{AwaitsInvoke}
 use Rattle.xa_client_worker.specs.xa_pipe.Following.{is_of, IsSent, IsBorneOut, StandsIn}
@@ -35,10 +35,10 @@ use Rattle.xa_server_worker.specs.Lives.{calls_of_all, lives_in, HasStarted, IsL
 use Rattle.xa_history.specs.Joined.{Back, whole_of, kept_of, noted_of}
 use Rattle.xa_history.specs.Ended.{ServerEnd, Ends}
 use Rattle.xa_history.specs.Served.{generations_of, lives_of as its_lives, IsAsked, IsLifeOf, IsStarterOf, IsCarried}
-use Rattle.xa_history.proofs.Callers.{made_in_merge}
+use Rattle.xa_history.proofs.Callers.{made_in_merge, over_now}
 use Rattle.xa_history.proofs.Going.{one_goes_on}
 use Rattle.xa_history.proofs.Homes.{saw_new}
-use Rattle.xa_history.proofs.Left.{same_homes}
+use Rattle.xa_history.proofs.Left.{same_homes, has_left as desk_has_left}
 use Rattle.xa_history.proofs.Requests.{closed_before, fails_before}
 use Rattle.xa_history.proofs.Numbered.{each_from, each_map}
 use Rattle.xa_history.proofs.Own.{is_worker, its_noted}
@@ -129,7 +129,9 @@ module _ (d : Domain) (b : Back) (domain : WorkState) (desks : List Desk) (serve
     calls_of : (server : ℕ) (end : ServerEnd) → ShownHere server end → MadeCalls d.setup d.clients (caller_of d.clients server) (calls_of_all end.lives) past
     calls_of server end its =
         let called = its.shows.called whole in
-        made_in_merge d b domain desks ends.left homes events ends.homes_are merged (caller_of d.clients server) its.desk its.there (calls_of_all end.lives) called.fits called.last called.over
+        made_in_merge d b domain desks ends.left homes events ends.homes_are merged (caller_of d.clients server) its.desk its.there (calls_of_all end.lives) called.fits called.last
+        (over_now (calls_of_all end.lives) (newest_call its.desk.caller.work.id.0 (worker_events d.clients its.desk.caller.work.id.0 (past_in its.desk.caller.work.own)))
+        (subst (λ (n : ℕ). accepted_in (newest_call its.desk.caller.work.id.0 (worker_events n its.desk.caller.work.id.0 (past_in its.desk.caller.work.own))) ≡ None) (desk_has_left d b domain desks ends.left (caller_of d.clients server) its.desk its.there).is.clients called.over))
 
     -- what holds of each server that shows its lives
     by_server : (P : ℕ → ServerEnd → Type 0) → ((server : ℕ) (end : ServerEnd) → ShownHere server end → P server end) → EachNumbered P 1 servers

@@ -1,5 +1,5 @@
 -- The merge of all homes is a run, whose events are those that workers make.
-use Rattle.std.proofs.Common.{List, [], map, reverse, ap, subst}
+use Rattle.std.proofs.Common.{List, map, reverse, ap, subst}
 use Rattle.std.specs.List.{All}
 use Rattle.std.proofs.lemmas.List.Elements.{All-map}
 use Rattle.xa_client_worker.specs.xa_events.declared.event.Event.{Event}

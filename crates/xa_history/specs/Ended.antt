@@ -1,5 +1,5 @@
 -- How the workers of a domain ended, by what their desks show (this project's own).
-use Rattle.std.specs.Prelude.{◌≡◌, ℕ, ◌+◌, true, List, [], length, map, Some, IsSomeAnd}
+use Rattle.std.specs.Prelude.{◌≡◌, ℕ, ◌+◌, true, List, length, map, Some, IsSomeAnd}
 use Rattle.xa_client_worker.specs.xa_types.declared.call.Op.{Op}
 use Rattle.xa_client_worker.specs.xa_types.declared.setup.ServerSetup.{ServerSetup}
 use Rattle.xa_client_worker.specs.xa_types.Setup.{numbered, queue_of}
@@ -28,7 +28,7 @@ pub record ServerEnd : Type 0 where
 
 -- a client made all of these calls, and left
 pub record HasMadeAll (d : Domain) (ops : List Op) (desk : Desk) : Type 0 where
-  pub made : HasMade (length ops) desk.caller.work
+  pub made : HasMade (length ops) desk
   pub fits : FitsCalls d ops desk
 
 -- each server's worker shows how its server lived; to its end, where the run came to its own

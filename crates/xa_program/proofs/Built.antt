@@ -1,12 +1,13 @@
 -- The calls of a script are of those that are served, and are few.
-use Rattle.std.proofs.Common.{◌≡◌, ℕ, zero, suc, true, ◌+◌, ◌-◌, ◌<◌, ◌≤◌, ◌^◌, List, [], ◌∷◌, length, drop, Option, Some, None, refl, arith, length-drop}
+use Rattle.std.proofs.Common.{◌≡◌, ℕ, zero, suc, true, false, ◌+◌, ◌-◌, ◌<◌, ◌≤◌, ◌^◌, List, [], ◌∷◌, length, drop, Option, Some, None, refl, arith, length-drop}
 use Rattle.std.specs.Prelude.{All}
 use Rattle.std.specs.List.{position, AllByRecursion}
 use Rattle.std.specs.Str.Lines.{lines}
+use Rattle.std.proofs.lemmas.Bool.{not-true}
 use Rattle.std.proofs.lemmas.List.Elements.{All-cons}
 use Rattle.xa_domain.specs.xa_types.declared.setup.Setup.{Setup}
 use Rattle.xa_domain.specs.xa_types.declared.call.Op.{Op}
-use Rattle.xa_domain.specs.xa_types.declared.call.Op.TheVariants.{Call, Priority, Advertise, Unadvertise, Tick}
+use Rattle.xa_domain.specs.xa_types.declared.call.Op.TheVariants.{Call, Acall, Get, GetAny, Cancel, Priority, Advertise, Unadvertise, Tick}
 use Rattle.xa_domain.specs.xa_script.declared.script.Client.{Client}
 use Rattle.xa_domain.specs.xa_client_worker.Going.{IsCall, AllCalls}
 use Rattle.xa_domain.specs.Working.{IsBuiltClient}
@@ -38,8 +39,12 @@ few_lines octets = lines_within (length octets) octets (omega arith)
 
 -- ---- the calls that are served
 
-served_built : (op : Op) → is_served op ≡ true → IsCall op
+served_built : (op : Op) → is_served op ≡ true → IsCall true op
 served_built (Call ask) served = tt
+served_built (Acall ask) served = (refl, not-true ask.flags.no_reply served)
+served_built (Get descriptor flags expect) served = tt
+served_built (GetAny flags expect) served = tt
+served_built (Cancel descriptor) served = tt
 served_built (Priority absolute amount) served = tt
 served_built (Advertise service routine) served = tt
 served_built (Unadvertise service) served = tt
@@ -48,7 +53,7 @@ served_built op served = absurd cc
 
 calls_built : (ops : List Op) → AllByRecursion IsServed ops → AllCalls ops
 calls_built [] served = λ k d low. absurd (omega arith)
-calls_built (op ∷ ops) served = All-cons IsCall op ops (served_built op served.0) (calls_built ops served.1)
+calls_built (op ∷ ops) served = All-cons (IsCall true) op ops (served_built op served.0) (calls_built ops served.1)
 
 each_built : (most : ℕ) (clients : List Client) → most < 2 ^ 32 → AllByRecursion (IsServedClient most) clients → All IsBuiltClient clients
 each_built most [] few served = λ k d low. absurd (omega arith)

@@ -58,14 +58,15 @@ impl Cause {
     }
 }
 
-// Whether a domain serves the call: a tpcall, one that sets the priority of the next request, or one that would change the board.
+// Whether a domain serves the call.
 fn is_served(op: &Op) -> bool
     ensures { result ≡ is_served op.now }
 {
-    matches!(
-        op,
-        Op::Call(_) | Op::Priority(_, _) | Op::Advertise(_, _) | Op::Unadvertise(_) | Op::Tick(_)
-    )
+    match op {
+        Op::Acall(ask) => !ask.flags.no_reply,
+        Op::Connect(_) | Op::Send(..) | Op::Receive(..) | Op::Disconnect(_) => false,
+        _ => true,
+    }
 }
 
 // The one word behind `client`.

@@ -70,8 +70,8 @@ pub mod stamp {
 
 pub mod types {
     pub use xa_caller::types::{
-        Answer, Ask, CallerId, Data, Fault, Generation, Kind, Name, NoMemory, Octets, Op, QueueId,
-        Reply, RequestId, Rval, Sequence, ServerId, ServiceSetup, Setup, Stamp, Worn,
+        Answer, Ask, CallFlags, CallerId, Data, Fault, Generation, Kind, Name, NoMemory, Octets,
+        Op, QueueId, Reply, RequestId, Rval, Sequence, ServerId, ServiceSetup, Setup, Stamp, Worn,
     };
 }
 

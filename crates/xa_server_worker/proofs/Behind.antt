@@ -151,6 +151,9 @@ module _ (old new : Desk) where
   pub still_behind : (R : Type 0) → own' ≡ own → new.caller.seat ≡ old.caller.seat → AllBehind R ⊤ own (known old.caller.seat) → AllBehind R ⊤ own' (known new.caller.seat)
   still_behind R is seat = at_seat own is seat (λ stamp behind. behind)
 
+  pub still_before : own' ≡ own → new.caller.seat ≡ old.caller.seat → ToldBefore old → ToldBefore new
+  still_before is seat = at_seat own is seat (λ stamp behind. behind)
+
   -- whatever was noted, where each that was told was told behind a start, and before the last event
   pub leads_behind : {d : Domain} → Leads d old new → new.caller.seat ≡ old.caller.seat → ToldBefore old → ToldBefore new
   leads_behind leads seat = at_seat (own ++ leads.own.0) leads.own.1 seat (λ stamp behind. behind_more own leads.own.0 stamp (λ none. absurd none) behind)

@@ -27,7 +27,7 @@ use Rattle.xa_desk.specs.xa_events.State.{caller_of}
 use Rattle.xa_desk.specs.xa_events.Homes.{of_worker, is_take_by}
 use Rattle.xa_desk.specs.xa_events.Homes.Home.{QueueHome, CallerHome}
 use Rattle.xa_desk.specs.xa_events.Local.{worker_events}
-use Rattle.xa_desk.specs.xa_events.Caller.{is_call_of, is_client, op_in, last_op}
+use Rattle.xa_desk.specs.xa_events.Caller.{is_call_of, is_client, op_in, last_op, open_descriptors}
 use Rattle.xa_desk.specs.xa_events.Said.{is_op, reply_at}
 use Rattle.xa_desk.specs.xa_events.Server.{doing, is_busy, start_in, starts, is_gone_of, is_gone}
 use Rattle.xa_desk.specs.xa_events.Views.{ServerView, server_view}
@@ -52,7 +52,8 @@ use Rattle.xa_desk.specs.xa_restart.Rule.{IsRuleOf}
 use Rattle.xa_desk.specs.xa_caller.declared.cargo.Filling.{Filling}
 use Rattle.xa_desk.specs.xa_caller.Caller.{IsSound, MayCall}
 use Rattle.xa_desk.specs.xa_caller.Drafts.{Cargo}
-use Rattle.xa_desk.specs.xa_caller.Phases.{just_in, open_in}
+use Rattle.xa_desk.specs.xa_caller.Phases.{request_of, just_in, Describes}
+use Rattle.xa_desk.proofs.xa_caller.Reading.{none_just}
 use Rattle.xa_desk.specs.xa_caller.declared.phase.Phase.TheVariants.{Idle}
 use Rattle.xa_desk.specs.xa_server.Doings.{room_for}
 use Rattle.xa_desk.specs.xa_server.Slot.{Reads}
@@ -84,7 +85,7 @@ use Rattle.xa_desk.proofs.Staying.{taken_stays}
 use Rattle.xa_calls.specs.declared.telling.Told.{Told}
 use Rattle.xa_calls.specs.declared.telling.Told.TheVariants as tells
 use Rattle.xa_calls.specs.Going.{IsReady, IsStopped, IsCall, PerformsBy}
-use Rattle.xa_calls.specs.Telling.{IsQuiet, NotesOne, Accepts, StoppedIn, Says, IsNow, IsTold}
+use Rattle.xa_calls.specs.Telling.{IsQuiet, NotesOne, Accepts, StoppedIn, Says, IsForClients, IsTold}
 use Rattle.xa_server_worker.specs.declared.working.ServerWorker.{ServerWorker}
 use Rattle.xa_server_worker.specs.Attending.{is_want, IsNewest, IsReplyTo, called_out}
 use Rattle.xa_server_worker.specs.Behind.{IsCalm, ends_by}
@@ -135,11 +136,11 @@ reply_done P told reply desk is by holds = subst P (sym (subst (λ (t : Told). I
 pub reply_fault : (P : Reply → Type 0) (told : Told) (fault : Fault) (reply : Reply) (desk : Desk) → told ≡ tells.Fault fault → IsReplyTo told reply desk → P (replies.Fault fault) → P reply
 reply_fault P told fault reply desk is by holds = subst P (sym (subst (λ (t : Told). IsReplyTo t reply desk) is by)) holds
 
-pub reply_answered : (P : Reply → Type 0) (told : Told) (b : Replied) (reply : Reply) (desk : Desk) (entries : List Stamped) (newest : Stamped) → told ≡ tells.Answered → entries ≡ filter (stands_at desk.caller.work.setup desk.caller.work.clients (CallerHome desk.caller.work.id.0)) desk.caller.work.own
-    → newest ≡ slice_index_or entries (length entries - 1) newest → newest.event ≡ Answer b → IsReplyTo told reply desk → P (replies.Answered 0 b.answer) → P reply
-reply_answered P told b reply desk entries newest is kept last answer by holds =
+pub reply_answered : (P : Reply → Type 0) (told : Told) (descriptor : ℕ) (b : Replied) (reply : Reply) (desk : Desk) (entries : List Stamped) (newest : Stamped) → told ≡ tells.Answered descriptor → entries ≡ filter (stands_at desk.caller.work.setup desk.caller.work.clients (CallerHome desk.caller.work.id.0)) desk.caller.work.own
+    → newest ≡ slice_index_or entries (length entries - 1) newest → newest.event ≡ Answer b → IsReplyTo told reply desk → P (replies.Answered descriptor b.answer) → P reply
+reply_answered P told descriptor b reply desk entries newest is kept last answer by holds =
     let (a, new, same) = subst (λ (t : Told). IsReplyTo t reply desk) is by in
-    subst P (ap (λ (r : Replied). replies.Answered 0 r.answer) (newest_answer desk a b entries newest new kept last answer) ∙ sym same) holds
+    subst P (ap (λ (r : Replied). replies.Answered descriptor r.answer) (newest_answer desk a b entries newest new kept last answer) ∙ sym same) holds
 
 -- that memory ran out is why
 pub want_is : (stopped : Stopped) → is_want stopped ≡ true → stopped ≡ Here NoMemory
@@ -150,13 +151,13 @@ want_is Elsewhere is = absurd (cc is)
 -- ---- the calls of a server
 
 -- a service may ask for what a caller may call
-pub may_be_called : (op : Op) → may_call op ≡ true → IsCall op
-may_be_called (Call ask) may = tt
-may_be_called (Priority absolute amount) may = tt
-may_be_called (Advertise service routine) may = tt
-may_be_called (Unadvertise service) may = tt
-may_be_called (Tick n) may = tt
-may_be_called op may = absurd (cc may)
+pub may_be_called : (client : Bool) (op : Op) → may_call op ≡ true → IsCall client op
+may_be_called client (Call ask) may = tt
+may_be_called client (Priority absolute amount) may = tt
+may_be_called client (Advertise service routine) may = tt
+may_be_called client (Unadvertise service) may = tt
+may_be_called client (Tick n) may = tt
+may_be_called client op may = absurd (cc may)
 
 at_length : (ops behind : List Op) (op : Op) → slice_get (ops ++ op ∷ behind) (length ops) ≡ Some op
 at_length [] behind op = refl
@@ -327,6 +328,7 @@ serving_on {d} {queue} {slot} {old} {new} {more} was is steps sound idle room ge
     let later = steps.leads.stamp in
     let view : server_view s (theirs new.caller.work) ≡ server_view s (theirs old.caller.work) = ap (server_view s) steps.own ∙ same in
     let number : new.caller.work.clients + s ≡ new.caller.work.id.0 = ap (λ n. n + s) steps.clients ∙ (number_of serving ∙ ap (λ i. i.0) (sym steps.id)) in
+    let some = some_server s _ _ t.worker.rule in
     let two : 2 ≤ old.caller.work.room = subst (λ (doing : Doing). room_for doing ≤ old.caller.work.room) does t.ready in
     record {
       stands = record {
@@ -334,7 +336,7 @@ serving_on {d} {queue} {slot} {old} {new} {more} was is steps sound idle room ge
           worker = record {
             number = number;
             rule = subst (λ setup. IsSomeAnd (numbered s setup.servers) (λ configured. IsRuleOf configured slot.restarts.restart slot.restarts.maxgen slot.restarts.grace)) (was.setup ∙ sym is.setup) t.worker.rule;
-            none = sound.reads.descriptors ∙ ap open_in idle;
+            none = subst (λ p. Describes new.caller.out p (open_descriptors new.caller.work.id.0 (theirs new.caller.work))) idle sound.reads.descriptors ∙ ap (map request_of) (sound.served (no_client new.caller.work.clients new.caller.work.id.0 (omega (arith, number, some))));
             unconnected = sound.reads.unconnected;
           };
           reads = subst (λ (v : ServerView). Reads v slot.made slot.restarts.starts slot.doing slot.last slot.gone slot.shut) (sym view) t.reads;
@@ -463,8 +465,8 @@ module _ {L T : Type 0} {d : Domain} {shows : T → StarterShows} (w : ServerWor
         inr (and_from (nat_lt w.desk.caller.work.clients caller) (is_busy (doing (caller - w.desk.caller.work.clients) (own_of w))) (lt-ltb w.desk.caller.work.clients caller (omega (arith, number, some)))
         (ap (λ (k : ℕ). is_busy (doing k (own_of w))) server ∙ (ap is_busy (its.at.serving.stands.tables.reads.moved ∙ its.does))))
 
-    pub may_be_made : IsCall op
-    may_be_made = may_be_called op calling.may
+    pub may_be_made : IsCall (is_client w.desk.caller.work.clients caller) op
+    may_be_made = may_be_called (is_client w.desk.caller.work.clients caller) op calling.may
 
     its_server : is_client w.desk.caller.work.clients caller ≡ false
     its_server =
@@ -511,10 +513,13 @@ module _ {L T : Type 0} {d : Domain} {shows : T → StarterShows} (w : ServerWor
         steps = record { leads = goes.leads; id = goes.same.id; clients = goes.same.clients; own = is.noted }
 
         serving' : IsServing d w.queue.0 slot desk'
-        serving' = serving_on its.at.is goes.leads.desk steps sound' made.idle goes.same.room life.generation t.request its.does (view_called caller number slot.server.0 more (own_of w) is.call) its.at.serving
+        serving' = serving_on its.at.is goes.leads.desk steps sound' made.idle (goes.same.room its_server) life.generation t.request its.does (view_called caller number slot.server.0 more (own_of w) is.call) its.at.serving
 
         serves : Serves d w.queue.0 is.more slot slot w.desk desk'
         serves = record { steps = steps; serving = serving'; server = refl; made = refl; gone = refl }
+
+        its_server' : is_client desk'.caller.work.clients desk'.caller.work.id.0 ≡ false
+        its_server' = ap (λ (n : ℕ). is_client n desk'.caller.work.id.0) goes.same.clients ∙ ap (λ i. is_client w.desk.caller.work.clients i.0) goes.same.id ∙ its_server
 
         call_at : (c : ℕ) → c ≡ caller → AreCall c number more × (count (is_op c number) (own_of w) ≡ 0)
         call_at c same = subst (λ (k : ℕ). AreCall k number more × (count (is_op k number) (own_of w) ≡ 0)) (sym same) (is.call, fresh)
@@ -523,7 +528,7 @@ module _ {L T : Type 0} {d : Domain} {shows : T → StarterShows} (w : ServerWor
         adds =
             let at = call_at (caller_of d.clients slot.server.0) (caller_is its.at.is its.at.serving) in
             let does : doing slot.server.0 (own_of w) ≡ Busy life.generation t.request = ap (λ s. doing s.0 (own_of w)) (sym its.last.server) ∙ doing_now in
-            call_adds steps slot.server.0 slot.made number life.generation t.request (number_of its.at.serving) at.0 at.1 does its.last.number (is.ticks its_server)
+            call_adds steps slot.server.0 slot.made number life.generation t.request (number_of its.at.serving) at.0 at.1 does its.last.number
 
         calm : IsCalm w.desk → IsCalm desk'
         calm =
@@ -537,7 +542,7 @@ module _ {L T : Type 0} {d : Domain} {shows : T → StarterShows} (w : ServerWor
             let count_is : number ≡ length before + 1 = turn ∙ ap (λ (n : ℕ). n + 1) (old_last ∙ its.at.called.last) in
             record {
               last = sound'.reads.called ∙ (made.made ∙ (count_is ∙ sym (one_longer all (calls_of life) op)));
-              over = sound'.reads.just ∙ ap just_in made.idle;
+              over = none_just desk'.caller.out desk'.caller.phase _ sound'.reads.just (ap just_in made.idle) (sound'.served its_server');
               fits = λ behind. subst (λ (ops : List Op). FitsCalls d ops desk') (calls_push all (calls_of life) behind op) (goes.fits (before ++ op ∷ behind) (next_number before behind op number count_is) (its.at.called.fits (op ∷ behind)));
             }
 
@@ -556,10 +561,11 @@ module _ {L T : Type 0} {d : Domain} {shows : T → StarterShows} (w : ServerWor
         replied_is tells.Done reply says by = by ∙ sym says
         replied_is (tells.Fault fault) reply says by = by ∙ sym says
         replied_is (tells.Now tick) reply says by = absurd by
-        replied_is tells.Answered reply says (a, newest, by) =
+        replied_is (tells.Descriptor descriptor) reply says by = absurd by
+        replied_is (tells.Answered descriptor) reply says (a, newest, by) =
             let first = answered_first a newest in
             let same : says.0 ≡ a = cc (sym says.2 ∙ first.1) in
-            by ∙ (ap (λ (r : Replied). replies.Answered 0 r.answer) (sym same) ∙ sym says.3)
+            by ∙ (ap (λ (r : Replied). replies.Answered descriptor r.answer) (sym same) ∙ sym says.3)
 
         pub reply_is : (reply : Reply) → IsReplyTo told reply desk' → reply ≡ reply_at (more ++ own_of w) (caller_of d.clients life.server.0) number
         reply_is reply by =
@@ -588,13 +594,14 @@ module _ {L T : Type 0} {d : Domain} {shows : T → StarterShows} (w : ServerWor
                 first_op (x ∷ y ∷ others) are = absurd are
 
         pub tells_it : (reply : Reply) × IsReplyTo told reply desk'
-        tells_it = by told (is.clock its_server) is.says
+        tells_it = by told (is.own_kind its_server) is.says
           where
-            by : (what : Told) → (IsNow what → ⊥) → Says what number desk'.caller.work.id.0 (theirs desk'.caller.work) → (reply : Reply) × IsReplyTo what reply desk'
+            by : (what : Told) → (IsForClients what → ⊥) → Says what number desk'.caller.work.id.0 (theirs desk'.caller.work) → (reply : Reply) × IsReplyTo what reply desk'
             by tells.Done never says = (replies.Done, refl)
             by (tells.Fault fault) never says = (replies.Fault fault, refl)
             by (tells.Now tick) never says = absurd (never tt)
-            by tells.Answered never says = (replies.Answered 0 says.0.answer, (says.0, newest_of says.0 says.1 says.2 says.4, refl))
+            by (tells.Descriptor descriptor) never says = absurd (never tt)
+            by (tells.Answered descriptor) never says = (replies.Answered descriptor says.0.answer, (says.0, newest_of says.0 says.1 says.2 says.4, refl))
 
         handed_after : AtEach (IsHanded life.server.0 life.generation.0 (invokes_of life) (IsSentFor d w.queue.0 desk')) (more ++ own_of w)
         handed_after =
@@ -681,7 +688,7 @@ module _ {L T : Type 0} {d : Domain} {shows : T → StarterShows} (w : ServerWor
       pub starved_dies : IsQuiet w.desk desk' → desk'.caller.phase ≡ Idle → (over : Ending) → Starves over life → MayDie d shows over after
       starved_dies quiet idle over starves =
           let still = still_steps goes.leads goes.same.id goes.same.clients quiet in
-          let serving = serving_on its.at.is goes.leads.desk still sound' idle goes.same.room life.generation t.request its.does refl its.at.serving in
+          let serving = serving_on its.at.is goes.leads.desk still sound' idle (goes.same.room its_server) life.generation t.request its.does refl its.at.serving in
           let serves : Serves d w.queue.0 [] slot slot w.desk desk' = record { steps = still; serving = serving; server = refl; made = refl; gone = refl } in
           let becomes : Becomes life.asked over.life life = link_becomes starves.life in
           let performing : over.life.turn ≡ Performing = ap (λ (l : LifeState). l.turn) starves.life ∙ its.turns in

@@ -103,7 +103,6 @@ module _ {new old : LifeState} (asked : List Frame) (becomes : Becomes asked new
     started = at.started;
     lived = subst (λ (g : Generation). HasLived d w.name w.queue.0 w.served.slot.server.0 w.served.slot.made w.desk w.served.lives.items (g ∷ [])) (sym (ap (λ (l : LifeState). l.generation) becomes.made)) at.lived;
     called = subst (λ (ops : List Op). HasCalled d (calls_of_all w.served.lives.items ++ (ops ++ [])) w.desk) (sym becomes.calls) at.called;
-    floor = at.floor;
     left = at.left;
     cut = at.cut;
     told = at.told;

@@ -1,5 +1,8 @@
 -- The lives of a server as its worker goes on.
-use Rattle.std.proofs.Common.{◌≡◌, ◌≢◌, ◌≤◌, ℕ, zero, suc, ◌+◌, ◌==◌, ◌&&◌, Bool, true, false, cond, List, [], ◌∷◌, ◌++◌, map, Option, None, refl, sym, ◌∙◌, ap, subst, append-nil, arith, append_assoc}
+use Rattle.std.proofs.Common.{◌≡◌, ◌≢◌, ◌≤◌, ℕ, zero, suc, ◌+◌, ◌==◌, ◌&&◌, Bool, true, false, cond, List, [], ◌∷◌, ◌++◌, map, Option, None, refl, sym, ◌∙◌, ap, subst, append-nil, arith, append_assoc, Some}
+use Rattle.xa_desk.specs.xa_caller.declared.phase.Phase.TheVariants as phases
+use Rattle.xa_desk.specs.xa_caller.declared.phase.Phase.{Phase}
+use Rattle.xa_desk.specs.xa_events.Local.{worker_events}
 use Rattle.std.specs.Prelude.{reverse, take, drop}
 use Rattle.std.specs.List.{All, cons_option, filter_map}
 use Rattle.std.proofs.lemmas.Bool.{ne_eqb, false≢true}
@@ -12,12 +15,12 @@ use Rattle.xa_desk.specs.xa_types.declared.call.Op.{Op}
 use Rattle.xa_desk.specs.xa_types.declared.ids.RequestId.{RequestId}
 use Rattle.xa_desk.specs.xa_worker.Going.{FitEach}
 use Rattle.xa_desk.specs.xa_events.declared.event.Event.{Event}
-use Rattle.xa_desk.specs.xa_events.declared.event.Event.TheVariants.{Take, Forward, Gone, Start, StartFailed, End, Stop}
+use Rattle.xa_desk.specs.xa_events.declared.event.Event.TheVariants.{Take, Forward, Gone, Start, StartFailed, End, Stop, Accept}
 use Rattle.xa_desk.specs.xa_events.declared.event.Taken.{Taken}
-use Rattle.xa_desk.specs.xa_events.Words.{AtEach, count, greatest}
+use Rattle.xa_desk.specs.xa_events.Words.{AtEach, count}
 use Rattle.xa_desk.specs.xa_events.Homes.{Home, of_worker}
 use Rattle.xa_desk.specs.xa_events.Homes.Home.{QueueHome}
-use Rattle.xa_desk.specs.xa_events.Caller.{tick_in, tick_floor, ticks, is_call_of, newest_call, op_of, accepted_in}
+use Rattle.xa_desk.specs.xa_events.Caller.{is_call_of, newest_call, op_of, accepted_in, just_accepted}
 use Rattle.xa_desk.specs.xa_events.Said.{is_op}
 use Rattle.xa_desk.specs.xa_events.State.{caller_of}
 use Rattle.xa_desk.specs.xa_events.Server.{doing}
@@ -39,8 +42,8 @@ use Rattle.xa_desk.proofs.xa_pipe.Dues.{call_of_none, due_beside, due_elsewhere}
 use Rattle.xa_desk.proofs.xa_worker.Calls.{call_of_worker}
 use Rattle.xa_desk.specs.declared.domain.Domain.{Domain}
 use Rattle.xa_desk.specs.declared.desk.Desk.{Desk}
-use Rattle.xa_desk.specs.Whole.{entries_of}
-use Rattle.xa_desk.specs.Desks.{Leads, FitsCalls}
+use Rattle.xa_desk.specs.Whole.{entries_of, Whole}
+use Rattle.xa_desk.specs.Desks.{Leads, FitsCalls, GoesOn, IsOver}
 use Rattle.xa_desk.specs.Serving.{IsSentFor}
 use Rattle.xa_server_worker.specs.Lives.{generation_in, lives_in, fails_start, failed_starts, IsHanded, EndsShut, IsLived}
 use Rattle.xa_server_worker.specs.Steps.{Steps}
@@ -89,14 +92,6 @@ no_failure server g (End e) its = refl
 no_failure server g (Stop x) its = refl
 no_failure server g (Gone s) its = refl
 no_failure server g _ its = absurd its
-
-no_tick : (clients caller g : ℕ) (e : Event) → OfLife g e → tick_in clients caller e ≡ None
-no_tick clients caller g (Take t) its = refl
-no_tick clients caller g (Forward f) its = refl
-no_tick clients caller g (End e) its = refl
-no_tick clients caller g (Stop x) its = refl
-no_tick clients caller g (Gone s) its = refl
-no_tick clients caller g _ its = absurd its
 
 -- what gives nothing of some is what it gives of the others
 pub skip_map : {Y : Type 0} (f : Event → Option Y) (more own : List Event) → All (λ (e : Event). f e ≡ None) more → filter_map f (more ++ own) ≡ filter_map f own
@@ -201,12 +196,11 @@ pub record Spares (d : Domain) (server made : ℕ) (more : List Event) (old new 
   pub others : (g : ℕ) → g ≢ made → All (λ (e : Event). is_of server g e ≡ false) more
   pub due : (g : ℕ) → g ≢ made → due_in_life d.clients server g (theirs new.caller.work) ≡ due_in_life d.clients server g (theirs old.caller.work)
 
--- and no start, and no tick
+-- and no start
 pub record Adds (d : Domain) (server made : ℕ) (more : List Event) (old new : Desk) : Type 0 where
   pub spares : Spares d server made more old new
   pub starts : All (λ (e : Event). generation_in server e ≡ None) more
   pub failures : All (λ (e : Event). fails_start server e ≡ false) more
-  pub ticks : All (λ (e : Event). tick_in old.caller.work.clients old.caller.work.id.0 e ≡ None) more
 
 -- so it is with what is of no life of the server, and of no call
 pub spares_by : {d : Domain} {old new : Desk} {more : List Event} → Steps d more old new → (server made : ℕ) → old.caller.work.clients + server ≡ old.caller.work.id.0 → ((g : ℕ) → g ≢ made → All (λ (e : Event). is_of server g e ≡ false) more)
@@ -226,7 +220,6 @@ life_adds {d} {old} {new} {more} steps server made number its =
       spares = spares_by steps server made number others (no_calls (caller_of d.clients server) made more its);
       starts = All-weaker (OfLife made) (λ (e : Event). generation_in server e ≡ None) (no_start server made) more its;
       failures = All-weaker (OfLife made) (λ (e : Event). fails_start server e ≡ false) (no_failure server made) more its;
-      ticks = All-weaker (OfLife made) (λ (e : Event). tick_in old.caller.work.clients old.caller.work.id.0 e ≡ None) (no_tick old.caller.work.clients old.caller.work.id.0 made) more its;
     }
 
 -- and so are those of a new call that was made in it
@@ -250,8 +243,8 @@ not_busy g made doing generation request is number apart = ap (is_busy_in g) is 
 
 pub call_adds : {d : Domain} {old new : Desk} {more : List Event} → Steps d more old new → (server made n : ℕ) (generation : Generation) (request : RequestId) → old.caller.work.clients + server ≡ old.caller.work.id.0
     → AreCall (caller_of d.clients server) n more → count (is_op (caller_of d.clients server) n) (theirs old.caller.work) ≡ 0 → doing server (theirs old.caller.work) ≡ Busy generation request → generation.0 ≡ made
-    → All (λ (e : Event). tick_in old.caller.work.clients old.caller.work.id.0 e ≡ None) more → Adds d server made more old new
-call_adds {d} {old} {new} {more} steps server made n generation request number are fresh busy its ticks = record {
+    → Adds d server made more old new
+call_adds {d} {old} {new} {more} steps server made n generation request number are fresh busy its = record {
   spares = record {
     steps = steps;
     number = number;
@@ -261,7 +254,6 @@ call_adds {d} {old} {new} {more} steps server made n generation request number a
   };
   starts = each_call (caller_of d.clients server) n (λ (e : Event). generation_in server e ≡ None) (call_no_start (caller_of d.clients server) n server) more are;
   failures = each_call (caller_of d.clients server) n (λ (e : Event). fails_start server e ≡ false) (call_no_failure (caller_of d.clients server) n server) more are;
-  ticks = ticks;
 }
 
 module _ {d : Domain} {old new : Desk} {more : List Event} (steps : Steps d more old new) where
@@ -346,13 +338,6 @@ module _ {d : Domain} {old new : Desk} {more : List Event} {server made : ℕ} (
   pub failed_same : failed_starts server (theirs new.caller.work) ≡ failed_starts server (theirs old.caller.work)
   failed_same = ap (failed_starts server) its_steps.own ∙ skip_count (fails_start server) more (theirs old.caller.work) adds.failures
 
-  -- no tick was read
-  pub floor_same : tick_floor new.caller.work.clients new.caller.work.id.0 (theirs new.caller.work) ≡ tick_floor old.caller.work.clients old.caller.work.id.0 (theirs old.caller.work)
-  unfolding ticks
-  floor_same =
-      ap (λ n. tick_floor n new.caller.work.id.0 (theirs new.caller.work)) its_steps.clients ∙ ap (λ i. tick_floor old.caller.work.clients i.0 (theirs new.caller.work)) its_steps.id ∙ ap (tick_floor old.caller.work.clients old.caller.work.id.0) its_steps.own
-      ∙ ap (greatest 0) (skip_map (tick_in old.caller.work.clients old.caller.work.id.0) more (theirs old.caller.work) adds.ticks)
-
   -- ---- with the life that goes on
 
   -- the life that goes on noted these
@@ -409,14 +394,34 @@ fit_more setup clients entries caller ops own (x ∷ rest) none fits =
     (fit_more setup clients entries caller ops (own ++ x ∷ []) rest (All-tail (λ (y : Stamped). is_call_of caller y.event ≡ false) x rest none)
     (subst (AtEach _) (sym (reverse-append own (x ∷ []))) ((λ is. absurd (false≢true (sym first ∙ is))), fits)))
 
+-- no request of its calls is out, so that the last is over
+none_over : (phase : Phase) (ops : List Op) (newest : Option Event) → accepted_in newest ≡ None → IsOver phase ops newest
+none_over phases.Idle ops None none = refl
+none_over phases.Idle ops (Some (Accept a)) none = absurd (cc none)
+none_over phases.Idle ops (Some _) none = refl
+none_over (phases.Prepared draft) ops None none = refl
+none_over (phases.Prepared draft) ops (Some (Accept a)) none = absurd (cc none)
+none_over (phases.Prepared draft) ops (Some _) none = refl
+none_over (phases.Sent sent) ops newest none = tt
+none_over (phases.Lost request) ops newest none = tt
+
+pub desk_over : (d : Domain) (desk : Desk) (ops : List Op) → desk.caller.work.clients ≡ d.clients → just_accepted desk.caller.work.id.0 (theirs desk.caller.work) ≡ None
+    → IsOver desk.caller.phase ops (newest_call desk.caller.work.id.0 (worker_events d.clients desk.caller.work.id.0 (past_in desk.caller.work.own)))
+desk_over d desk ops clients none =
+    none_over desk.caller.phase ops (newest_call desk.caller.work.id.0 (worker_events d.clients desk.caller.work.id.0 (past_in desk.caller.work.own)))
+    (subst (λ (n : ℕ). accepted_in (newest_call desk.caller.work.id.0 (worker_events n desk.caller.work.id.0 (past_in desk.caller.work.own))) ≡ None) clients none)
+
 module _ {d : Domain} {old new : Desk} {more : List Event} (steps : Steps d more old new) where
   -- what it noted is of no call
-  pub fits_still : (ops : List Op) → All (λ (e : Event). is_call_of old.caller.work.id.0 e ≡ false) more → FitsCalls d ops old → FitsCalls d ops new
-  fits_still ops none fits whole on =
-      let caller : ℕ = old.caller.work.id.0 in
-      subst (λ i. FitEach d.setup d.clients (entries_of whole) i ops new.caller.work.own) (ap (λ i. i.0) (sym steps.id))
-      (subst (FitEach d.setup d.clients (entries_of whole) caller ops) (sym {A = List Stamped} steps.leads.own.1)
-      (fit_more d.setup d.clients (entries_of whole) caller ops old.caller.work.own steps.leads.own.0 (rest_none steps (is_call_of caller) (call_of_worker old.caller.work.clients caller) none) (fits whole (steps.leads.before whole on))))
+  pub fits_still : (ops : List Op) → All (λ (e : Event). is_call_of old.caller.work.id.0 e ≡ false) more → just_accepted new.caller.work.id.0 (theirs new.caller.work) ≡ None → FitsCalls d ops old → FitsCalls d ops new
+  fits_still ops none over fits = record { each = each_still; over = desk_over d new ops steps.leads.desk.clients over }
+    where
+      each_still : (whole : Whole) → GoesOn d whole new → FitEach d.setup d.clients (entries_of whole) new.caller.work.id.0 ops new.caller.work.own
+      each_still whole on =
+          let caller : ℕ = old.caller.work.id.0 in
+          subst (λ i. FitEach d.setup d.clients (entries_of whole) i ops new.caller.work.own) (ap (λ i. i.0) (sym steps.id))
+          (subst (FitEach d.setup d.clients (entries_of whole) caller ops) (sym {A = List Stamped} steps.leads.own.1)
+          (fit_more d.setup d.clients (entries_of whole) caller ops old.caller.work.own steps.leads.own.0 (rest_none steps (is_call_of caller) (call_of_worker old.caller.work.clients caller) none) (fits.each whole (steps.leads.before whole on))))
 
   pub called_still : (ops : List Op) → All (λ (e : Event). is_call_of old.caller.work.id.0 e ≡ false) more → HasCalled d ops old → HasCalled d ops new
   called_still ops none is =
@@ -426,5 +431,5 @@ module _ {d : Domain} {old new : Desk} {more : List Event} (steps : Steps d more
       record {
         last = ap op_of same ∙ is.last;
         over = ap accepted_in same ∙ is.over;
-        fits = λ behind. fits_still (ops ++ behind) none (is.fits behind);
+        fits = λ behind. fits_still (ops ++ behind) none (ap accepted_in same ∙ is.over) (is.fits behind);
       }

@@ -1,6 +1,6 @@
 -- Where a server's worker stands, as its desk and its slot go on.
 use Rattle.std.proofs.Common.{◌≡◌, ◌<◌, ◌⊎◌, ℕ, ◌+◌, Bool, false, true, List, [], ◌∷◌, ◌++◌, map, length, Option, Some, None, inl, inr, refl, sym, ◌∙◌, ap, subst, append_assoc, arith}
-use Rattle.std.specs.Prelude.{IfSome}
+use Rattle.std.specs.Prelude.{IfSome, ⊤}
 use Rattle.std.specs.List.{All, flat_map}
 use Rattle.std.proofs.lemmas.Bool.{false≢true}
 use Rattle.std.proofs.lemmas.List.{append-nil}
@@ -33,7 +33,7 @@ use Rattle.xa_desk.specs.declared.domain.Domain.{Domain}
 use Rattle.xa_desk.specs.declared.desk.Desk.{Desk}
 use Rattle.xa_desk.specs.declared.stopped.Stopped.{Stopped}
 use Rattle.xa_desk.specs.Whole.{entries_of}
-use Rattle.xa_desk.specs.Desks.{IsDesk, FitsCalls}
+use Rattle.xa_desk.specs.Desks.{IsDesk, FitsCalls, shown_to}
 use Rattle.xa_desk.specs.xa_caller.Phases.{IsPrepared}
 use Rattle.xa_desk.specs.xa_caller.declared.phase.Phase.TheVariants.{Idle}
 use Rattle.xa_calls.specs.Going.{IsOut}
@@ -44,19 +44,22 @@ use Rattle.xa_desk.proofs.Staying.{queue_stays}
 use Rattle.xa_desk.specs.xa_worker.declared.work.Halt.TheVariants.{NoMemory, Worn}
 use Rattle.xa_desk.specs.declared.stopped.Stopped.TheVariants.{Here, Elsewhere}
 use Rattle.xa_desk.proofs.xa_server.Reading.{last_by_floor}
-use Rattle.xa_desk.specs.xa_restart.Rule.{IsLast as IsLastTick, may_start_by}
+use Rattle.xa_desk.specs.xa_restart.Rule.{RestartState, IsLast as IsLastTick, may_start_by}
+use Rattle.xa_desk.specs.xa_caller.Caller.{CallerState}
+use Rattle.xa_desk.specs.Ticking.{ReadsClock}
+use Rattle.xa_desk.proofs.Starting.{floor_shown}
 use Rattle.xa_desk.proofs.Leading.{leads_trans}
 use Rattle.xa_desk.specs.xa_server.declared.closing.Closing.{Closing}
-use Rattle.xa_server_worker.specs.Behind.{TellsLast, IsCalm}
-use Rattle.xa_server_worker.proofs.Behind.{tells_last, tells_calm, by_told}
-use Rattle.xa_server_worker.proofs.Stepping.{told_steps, serving_told}
+use Rattle.xa_server_worker.specs.Behind.{TellsLast, ToldBefore, IsCalm}
+use Rattle.xa_server_worker.proofs.Behind.{still_before, still_behind, tells_last, tells_calm, by_told}
+use Rattle.xa_server_worker.proofs.Stepping.{read_steps, told_steps, serving_told}
 use Rattle.xa_server_worker.specs.declared.working.ServerWorker.{ServerWorker}
 use Rattle.xa_desk.specs.Halting.{IsStopAt}
 use Rattle.xa_server_worker.specs.Lives.{failed_starts, lives_in, calls_of_all, HasMadeCalls, HasStarted, HasStartedSoFar, IsDone, IsHanded, IsLived, EndsShut, TookEach, HandsOn, IsCut, ServerShows}
 use Rattle.xa_server_worker.specs.Working.{cut_in}
 use Rattle.xa_server_worker.specs.Steps.{Steps, Serves, Tells}
 use Rattle.xa_server_worker.specs.Standing.{Goes, HasLived, HasCalled, IsLast, IsGoing, IsAtWork, IsOff, IsIn, HasEnded}
-use Rattle.xa_server_worker.proofs.Keeping.{OfLife, Adds, life_adds, no_calls, skip_count, failed_same, floor_same, handed_led, handed_more, lives_on, lives_end, lives_off, lived_one, going_on, called_still, fits_still, none_counted, stops_own}
+use Rattle.xa_server_worker.proofs.Keeping.{OfLife, Adds, life_adds, no_calls, skip_count, failed_same, handed_led, handed_more, lives_on, lives_end, lives_off, lived_one, going_on, called_still, fits_still, none_counted, stops_own}
 use Rattle.xa_server_worker.specs.Reasons.{ShowsReason}
 
 -- how a server is done stays, where its worker noted nothing of its own
@@ -136,6 +139,10 @@ none_off P cut none = subst (λ (o : Option LifeState). All P (cut_in o)) (sym n
 abbrev pub at_desk : {L T : Type 0} → ServerWorker L T → ServerSlot → Desk → ServerWorker L T
 at_desk w slot desk = record w { desk = desk; served = record w.served { slot = slot } }
 
+-- or with that desk alone
+abbrev pub at_read : {L T : Type 0} → ServerWorker L T → Desk → ServerWorker L T
+at_read w desk = at_desk w w.served.slot desk
+
 -- and with a life more that is kept
 abbrev pub at_kept : {L T : Type 0} → ServerWorker L T → Served L T → ServerSlot → Desk → ServerWorker L T
 at_kept w kept slot desk = record w { desk = desk; served = record kept { slot = slot } }
@@ -143,10 +150,11 @@ at_kept w kept slot desk = record w { desk = desk; served = record kept { slot =
 -- its calls stay what they were, where the worker noted nothing of its own
 made_still : {d : Domain} {old new : Desk} → Steps d [] old new → (ops : List Op) → HasMadeCalls d ops old → HasMadeCalls d ops new
 made_still {d} {old} {new} steps ops is =
-    let so : FitsCalls d ops new = λ whole on. fits_still steps ops (All-nil (λ (e : Event). is_call_of old.caller.work.id.0 e ≡ false)) is.fits whole on in
+    let over = ap (λ i. just_accepted i.0 (theirs new.caller.work)) steps.id ∙ (ap (just_accepted old.caller.work.id.0) steps.own ∙ is.over) in
+    let so : FitsCalls d ops new = fits_still steps ops (All-nil (λ (e : Event). is_call_of old.caller.work.id.0 e ≡ false)) over is.fits in
     record {
       last = ap (λ i. last_op i.0 (theirs new.caller.work)) steps.id ∙ (ap (last_op old.caller.work.id.0) steps.own ∙ is.last);
-      over = ap (λ i. just_accepted i.0 (theirs new.caller.work)) steps.id ∙ (ap (just_accepted old.caller.work.id.0) steps.own ∙ is.over);
+      over = over;
       fits = so;
     }
 
@@ -162,6 +170,14 @@ made_all {d} {desk} ops is = record {
 pub idle_out : (desk : Desk) → desk.caller.phase ≡ Idle → IsOut desk
 idle_out desk idle prepared = subst IsPrepared idle prepared
 
+-- as the clock is read, nobody is told of the end of a life
+pub before_read : {d : Domain} {old new : Desk} {tick : ℕ} → ReadsClock d tick old new → ToldBefore old → ToldBefore new
+before_read {d} {old} {new} reads told = still_before old new (ap (λ (c : CallerState). c.work.own) reads.sees.1) (ap (λ (c : CallerState). c.seat) reads.sees.1) told
+
+-- a server that was never started may be started
+pub first_may : (r : RestartState) (tick : ℕ) → r.starts ≡ [] → may_start_by r tick ≡ true
+first_may r tick none = ap (λ (s : List ℕ). may_start_by (record r { starts = s }) tick) none
+
 module _ {L T : Type 0} {d : Domain} {shows : T → StarterShows} where
   -- ---- in a life
 
@@ -176,7 +192,6 @@ module _ {L T : Type 0} {d : Domain} {shows : T → StarterShows} where
     lived = lives_moved (ap (λ s. s.0) serves.server) serves.made
         (subst (λ (g : Generation). HasLived d w.name w.queue.0 w.served.slot.server.0 w.served.slot.made desk' w.served.lives.items (g ∷ [])) (sym same) (lives_on adds w.name w.queue.0 w.served.lives.items going.generation at.lived));
     called = called;
-    floor = floor_same adds ∙ at.floor;
     left = serves.gone ∙ at.left;
     cut = at.cut;
     told = calm at.told;
@@ -251,7 +266,6 @@ module _ {L T : Type 0} {d : Domain} {shows : T → StarterShows} where
           (lives_end (adds_on w slot' desk' more serves its at) w.name w.queue.0 w.served.lives.items over last.number lived at.lived));
       called = subst (λ (l : List Ending). HasCalled d (calls_of_all l ++ []) desk') (sym {A = List Ending} lives)
           (subst (λ (ops : List Op). HasCalled d ops desk') (sym (calls_more w.served.lives.items over)) (called_still serves.steps _ (no_calls w.desk.caller.work.id.0 w.served.slot.made more its) at.called));
-      floor = floor_same (adds_on w slot' desk' more serves its at) ∙ at.floor;
       left = serves.gone ∙ at.left;
       cut = at.cut;
       told = told;
@@ -383,36 +397,42 @@ module _ {L T : Type 0} {d : Domain} {shows : T → StarterShows} where
   pub in_told : (w : ServerWorker L T) (desk' : Desk) (doing : Doing) (turn : Turn) (n : ℕ) (life : LifeState) {closing : Option Closing} → Tells d closing w.desk desk' → IsIn d shows doing turn n life w → IsIn d shows doing turn n life (at_desk w w.served.slot desk')
   in_told w desk' doing turn n life {closing} tells is = in_on w w.served.slot desk' doing turn n life (record { steps = told_steps tells; serving = serving_told tells is.at.serving; server = refl; made = refl; gone = refl }) refl (tells_calm w.desk desk' tells) is
 
-  pub off_told : (w : ServerWorker L T) (desk' : Desk) {closing : Option Closing} → Tells d closing w.desk desk' → IsOff d shows w → IsOff d shows (at_desk w w.served.slot desk')
-  off_told w desk' {closing} tells off =
+  -- where nothing was noted it is off still
+  off_on : (w : ServerWorker L T) (desk' : Desk) → Steps d [] w.desk desk' → IsServing d w.queue.0 w.served.slot desk' → TellsLast desk' → IsOff d shows w → IsOff d shows (at_desk w w.served.slot desk')
+  off_on w desk' steps serving told off =
       let at = off.at in
-      let steps = told_steps tells in
       let adds : (g : ℕ) → Adds d w.served.slot.server.0 g [] w.desk desk' = λ g. life_adds steps w.served.slot.server.0 g (number_of at.serving) (All-nil (OfLife g)) in
       record {
         at = record {
           is = steps.leads.desk;
-          serving = serving_told tells at.serving;
+          serving = serving;
           named_so = at.named_so;
           started = started_on refl (failed_on (adds 0) w.served.slot w.served.slot refl refl) refl at.started;
           lived = lives_off adds w.name w.queue.0 w.served.slot.made w.served.lives.items at.lived;
           called = called_still steps _ (All-nil (λ (e : Event). is_call_of w.desk.caller.work.id.0 e ≡ false)) at.called;
-          floor = floor_same (adds 0) ∙ at.floor;
           left = at.left;
           cut = at.cut;
-          told = tells_last w.desk desk' tells at.told;
+          told = told;
         };
         off = off.off;
         up = off.up;
       }
 
-  -- whether it may be started
-  pub may_be : (w : ServerWorker L T) (b : Bool) → IsOff d shows w → (IsLastTick 0 w.served.slot.restarts.starts → b ≡ may_start_by w.served.slot.restarts 0) → may_start_by w.served.slot.restarts 0 ≡ b
-  may_be w b off tells = let floor = off.at.floor in sym (tells (last_by_floor w.served.slot w.desk.caller.work off.at.serving.stands.tables 0 (omega (arith, floor))))
+  pub off_told : (w : ServerWorker L T) (desk' : Desk) {closing : Option Closing} → Tells d closing w.desk desk' → IsOff d shows w → IsOff d shows (at_desk w w.served.slot desk')
+  off_told w desk' {closing} tells off = off_on w desk' (told_steps tells) (serving_told tells off.at.serving) (tells_last w.desk desk' tells off.at.told) off
+
+  -- its worker reads the clock
+  pub off_read : (w : ServerWorker L T) (desk' : Desk) {tick : ℕ} → ReadsClock d tick w.desk desk' → IsServing d w.queue.0 w.served.slot desk' → IsOff d shows w → IsOff d shows (at_desk w w.served.slot desk')
+  off_read w desk' reads serving off = off_on w desk' (read_steps reads) serving (still_behind w.desk desk' ⊤ (ap (λ (c : CallerState). c.work.own) reads.sees.1) (ap (λ (c : CallerState). c.seat) reads.sees.1) off.at.told) off
+
+  -- no start of its was made after what the clock showed last
+  pub last_shown : (w : ServerWorker L T) (tick : ℕ) → IsOff d shows w → tick ≡ shown_to w.desk → IsLastTick tick w.served.slot.restarts.starts
+  last_shown w tick off shown = last_by_floor w.served.slot w.desk.caller.work off.at.serving.stands.tables tick (floor_shown off.at.is shown)
 
   -- its first start is counted
   pub in_counted : {doing : Doing} {turn : Turn} {n : ℕ} {life : LifeState} (w other : ServerWorker L T) → other ≡ record w { counted = other.counted } → IsIn d shows doing turn n life w → IsIn d shows doing turn n life other
   in_counted {doing} {turn} {n} {life} w other rest is = subst (IsIn d shows doing turn n life) (sym rest) (record {
-    at = record { is = is.at.is; serving = is.at.serving; named_so = is.at.named_so; started = is.at.started; lived = is.at.lived; called = is.at.called; floor = is.at.floor; left = is.at.left; cut = is.at.cut; told = is.at.told };
+    at = record { is = is.at.is; serving = is.at.serving; named_so = is.at.named_so; started = is.at.started; lived = is.at.lived; called = is.at.called; left = is.at.left; cut = is.at.cut; told = is.at.told };
     last = is.last;
     going = is.going;
     does = is.does;
@@ -426,6 +446,14 @@ module _ {L T : Type 0} {d : Domain} {shows : T → StarterShows} where
 module _ {L T : Type 0} {d : Domain} where
   pub goes_by : (w w' : ServerWorker L T) (more : List Event) → Steps d more w.desk w'.desk → w'.served.slot.server ≡ w.served.slot.server → w'.name ≡ w.name → w'.queue ≡ w.queue → Goes d w w'
   goes_by w w' more steps server name queue = record { leads = steps.leads; id = steps.id; clients = steps.clients; server = server; name = name; queue = queue }
+
+  -- the clock was read
+  pub goes_read : (w : ServerWorker L T) (desk' : Desk) {tick : ℕ} → ReadsClock d tick w.desk desk' → Goes d w (at_read w desk')
+  goes_read w desk' reads = goes_by w (at_read w desk') [] (read_steps reads) refl refl refl
+
+  -- or somebody was told
+  pub goes_tells : (w : ServerWorker L T) (desk' : Desk) {closing : Option Closing} → Tells d closing w.desk desk' → Goes d w (at_read w desk')
+  goes_tells w desk' tells = goes_by w (at_read w desk') [] (told_steps tells) refl refl refl
 
   pub goes_trans : (a b c : ServerWorker L T) → Goes d a b → Goes d b c → Goes d a c
   goes_trans a b c ab bc = record {

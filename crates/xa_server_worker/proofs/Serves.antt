@@ -1,13 +1,13 @@
 -- All of a server's worker's work: how it begins, and what it leaves.
 use Rattle.std.proofs.Common.{◌≡◌, ◌≤◌, ℕ, ◌+◌, false, true, List, [], ◌++◌, Option, None, refl, sym, ◌∙◌, ap, subst}
+use Rattle.xa_server_worker.proofs.Keeping.{desk_over}
 use Rattle.std.specs.List.{All}
 use Rattle.std.proofs.lemmas.List.Elements.{All-nil}
 use Rattle.xa_desk.specs.xa_events.declared.event.Event.{Event}
-use Rattle.xa_desk.specs.xa_events.Caller.{ticks, tick_floor, newest_call, last_op, just_accepted}
+use Rattle.xa_desk.specs.xa_events.Caller.{newest_call, last_op, just_accepted}
 use Rattle.xa_desk.specs.xa_events.Local.{worker_events}
 use Rattle.xa_desk.specs.xa_stamp.declared.home.Stamped.{Stamped}
 use Rattle.xa_desk.specs.xa_worker.Seen.{past_in}
-use Rattle.xa_desk.specs.xa_restart.Rule.{RestartState, may_start_by}
 use Rattle.xa_desk.specs.xa_worker.Work.{theirs}
 use Rattle.xa_desk.specs.xa_pipe.Standing.{Ending}
 use Rattle.xa_desk.specs.xa_pipe.Following.{is_of, due_in_life}
@@ -21,29 +21,25 @@ use Rattle.xa_desk.specs.declared.stopped.Stopped.{Stopped}
 use Rattle.xa_server_worker.specs.declared.working.ServerWorker.{ServerWorker}
 use Rattle.xa_server_worker.specs.Lives.{failed_starts, lives_in, calls_of_all, IsLived, ServerShows}
 use Rattle.xa_server_worker.specs.Working.{MayServe, HasServed, cut_in}
-use Rattle.xa_server_worker.specs.Standing.{Goes, HasLived, HasCalled, MayGoOn, HasEnded}
+use Rattle.xa_server_worker.specs.Standing.{Goes, HasLived, HasCalled, IsUntried, HasEnded}
 use Rattle.xa_server_worker.proofs.Behind.{first_told}
 use Rattle.xa_server_worker.proofs.Lasting.{started_on}
-
-first_floor : (clients caller : ℕ) (own : List Event) → own ≡ [] → tick_floor clients caller own ≡ 0
-unfolding ticks
-first_floor clients caller own none = ap (tick_floor clients caller) none
-
-first_may : (r : RestartState) → r.starts ≡ [] → may_start_by r 0 ≡ true
-first_may r none = ap (λ (s : List ℕ). may_start_by (record r { starts = s }) 0) none
 
 none_noted : (clients caller : ℕ) (own : List Stamped) → own ≡ [] → worker_events clients caller (past_in own) ≡ []
 none_noted clients caller own none = ap (λ (l : List Stamped). worker_events clients caller (past_in l)) none
 
 -- and made no call
-none_called : {d : Domain} (desk : Desk) → desk.caller.work.own ≡ [] → HasCalled d [] desk
+none_called : {d : Domain} (desk : Desk) → desk.caller.work.clients ≡ d.clients → desk.caller.work.own ≡ [] → HasCalled d [] desk
 unfolding newest_call
-none_called {d} desk none =
+none_called {d} desk clients none =
     let own : theirs desk.caller.work ≡ [] = none_noted desk.caller.work.clients desk.caller.work.id.0 desk.caller.work.own none in
     record {
       last = ap (last_op desk.caller.work.id.0) own;
       over = ap (just_accepted desk.caller.work.id.0) own;
-      fits = λ more whole on. subst (FitEach d.setup d.clients (entries_of whole) desk.caller.work.id.0 more) (sym {A = List Stamped} none) tt;
+      fits = λ more. record {
+        each = λ whole on. subst (FitEach d.setup d.clients (entries_of whole) desk.caller.work.id.0 more) (sym {A = List Stamped} none) tt;
+        over = desk_over d desk more clients (ap (just_accepted desk.caller.work.id.0) own);
+      };
     }
 
 -- why it stopped is noted
@@ -52,7 +48,7 @@ goes_stopped old w why goes = record { leads = goes.leads; id = goes.id; clients
 
 module _ {L T : Type 0} {d : Domain} {shows : T → StarterShows} where
   -- a worker that has done nothing may start its server
-  pub begins : (w : ServerWorker L T) → MayServe d shows w → MayGoOn d shows w
+  pub begins : (w : ServerWorker L T) → MayServe d shows w → IsUntried d shows w
   begins w may =
       let own : List Event = theirs w.desk.caller.work in
       let none : own ≡ [] = none_noted w.desk.caller.work.clients w.desk.caller.work.id.0 w.desk.caller.work.own may.own in
@@ -73,8 +69,7 @@ module _ {L T : Type 0} {d : Domain} {shows : T → StarterShows} where
             named_so = may.name_is;
             started = started_on made (ap (failed_starts s) none) refl may.unasked;
             lived = subst (λ (l : List Ending). HasLived d w.name w.queue.0 s w.served.slot.made w.desk l []) (sym {A = List Ending} may.lives) lived;
-            called = subst (λ (l : List Ending). HasCalled d (calls_of_all l ++ []) w.desk) (sym {A = List Ending} may.lives) (none_called w.desk may.own);
-            floor = first_floor w.desk.caller.work.clients w.desk.caller.work.id.0 own none;
+            called = subst (λ (l : List Ending). HasCalled d (calls_of_all l ++ []) w.desk) (sym {A = List Ending} may.lives) (none_called w.desk may.is.clients may.own);
             left = ap (λ (x : ServerSlot). x.gone) may.fresh;
             cut = may.cut;
             told = first_told w.desk may.own may.is.filled;
@@ -82,7 +77,7 @@ module _ {L T : Type 0} {d : Domain} {shows : T → StarterShows} where
           off = ap (λ (x : ServerSlot). x.doing) may.fresh;
           up = ap (λ (x : ServerSlot). x.shut) may.fresh;
         };
-        may = ap (λ (x : ServerSlot). may_start_by x.restarts 0) may.fresh ∙ first_may may.restarts may.none;
+        none = ap (λ (x : ServerSlot). x.restarts.starts) may.fresh ∙ may.none;
       }
 
   -- what is left of it shows how the server lived

@@ -1,5 +1,5 @@
 -- A server is started.
-use Rattle.std.proofs.Common.{◌≡◌, ◌<◌, ◌≤◌, ◌⊎◌, ℕ, ◌+◌, ◌==◌, Bool, true, false, cond, List, [], ◌∷◌, ◌++◌, map, length, Option, Some, None, inl, inr, refl, sym, ◌∙◌, ap, subst, append-nil, add-one, arith, eq-eqb, if◌then◌else◌}
+use Rattle.std.proofs.Common.{◌≡◌, ◌<◌, ◌≤◌, ℕ, ◌+◌, ◌==◌, Bool, true, false, cond, List, [], ◌∷◌, ◌++◌, map, length, Option, Some, None, inl, inr, refl, sym, ◌∙◌, ap, subst, append-nil, add-one, arith, eq-eqb, if◌then◌else◌}
 use Rattle.std.specs.Prelude.{IfSome, ⊤, reverse, vec_len, vec_capacity}
 use Rattle.std.specs.List.{All, cons_option, filter_map, flat_map}
 use Rattle.std.proofs.lemmas.List.{reverse-append}
@@ -10,9 +10,9 @@ use Rattle.xa_desk.specs.xa_events.declared.event.Event.{Event}
 use Rattle.xa_desk.specs.xa_events.declared.event.Event.TheVariants.{Take, Forward, End, Start, StartFailed}
 use Rattle.xa_desk.specs.xa_events.declared.event.Started.{Started}
 use Rattle.xa_desk.specs.xa_events.declared.event.Doing.TheVariants.{Idle}
-use Rattle.xa_desk.specs.xa_events.Words.{AtEach, count, greatest}
+use Rattle.xa_desk.specs.xa_events.Words.{AtEach, count}
 use Rattle.xa_desk.specs.xa_events.State.{caller_of}
-use Rattle.xa_desk.specs.xa_events.Caller.{tick_in, ticks, tick_floor, is_call_of}
+use Rattle.xa_desk.specs.xa_events.Caller.{is_call_of}
 use Rattle.xa_desk.specs.xa_link.Starts.{AsksFor}
 use Rattle.xa_desk.specs.xa_link.Told.{Rose}
 use Rattle.xa_desk.specs.xa_worker.Work.{WorkState, theirs}
@@ -64,16 +64,6 @@ failed_more name n failed shows' shown asks rose is = record { asked = asked_mor
 
 -- ---- a start among the events
 
--- the clock stands at 0
-floor_start : (clients caller : ℕ) (e : Event) (own : List Event) → (tick_in clients caller e ≡ Some 0) ⊎ (tick_in clients caller e ≡ None) → tick_floor clients caller own ≡ 0 → tick_floor clients caller (e ∷ own) ≡ 0
-unfolding ticks
-floor_start clients caller e own (inl some) zero_so = ap (λ o. greatest 0 (cons_option o (filter_map (tick_in clients caller) own))) some ∙ (let floor = zero_so in omega (arith, floor))
-floor_start clients caller e own (inr none) zero_so = ap (λ o. greatest 0 (cons_option o (filter_map (tick_in clients caller) own))) none ∙ zero_so
-
-either : (b : Bool) → (if◌then◌else◌ {A = Option ℕ} b (Some 0) None ≡ Some 0) ⊎ (if◌then◌else◌ {A = Option ℕ} b (Some 0) None ≡ None)
-either true = inl refl
-either false = inr refl
-
 -- of a life that isn't begun nothing was noted
 takes_none : (server g : ℕ) (e : Event) → is_of server g e ≡ false → is_take_in server g e ≡ false
 takes_none server g (Take t) other = other
@@ -107,15 +97,14 @@ module _ {L T : Type 0} {d : Domain} {shows : T → StarterShows} (w : ServerWor
 
   work_behind : {more : List Event} {going : List LifeState} {n f : ℕ} → Steps d more w.desk desk' → HasStarted w.name n f (shows served'.starter) → served'.slot.made ≡ n → failed_starts w.served.slot.server.0 (theirs desk'.caller.work) ≡ f → HasLived d w.name w.queue.0 w.served.slot.server.0 n desk' served'.lives.items (map (λ (life : LifeState). life.generation) going)
       → HasCalled d (calls_of_all served'.lives.items ++ flat_map calls_of going) desk'
-      → tick_floor w.desk.caller.work.clients w.desk.caller.work.id.0 (more ++ (theirs w.desk.caller.work)) ≡ 0 → served'.slot.server ≡ w.served.slot.server → served'.slot.gone ≡ w.served.slot.gone → ToldBy going desk' → IsAtWork d shows (served_at w served' desk') going
-  work_behind steps started made failed lived called floor same gone told = record {
+      → served'.slot.server ≡ w.served.slot.server → served'.slot.gone ≡ w.served.slot.gone → ToldBy going desk' → IsAtWork d shows (served_at w served' desk') going
+  work_behind steps started made failed lived called same gone told = record {
     is = leads.desk;
     serving = serving;
     named_so = name ∙ off.at.named_so;
     started = started_on made (ap (λ s. failed_starts s.0 (theirs desk'.caller.work)) same ∙ failed) refl started;
     lived = lives_moved (ap (λ s. s.0) same) made lived;
     called = called;
-    floor = ap (λ n. tick_floor n desk'.caller.work.id.0 (theirs desk'.caller.work)) steps.clients ∙ ap (λ i. tick_floor w.desk.caller.work.clients i.0 (theirs desk'.caller.work)) steps.id ∙ ap (tick_floor w.desk.caller.work.clients w.desk.caller.work.id.0) steps.own ∙ floor;
     left = gone ∙ off.at.left;
     cut = off.at.cut;
     told = told;
@@ -136,11 +125,11 @@ module _ {L T : Type 0} {d : Domain} {shows : T → StarterShows} (w : ServerWor
 
   -- ---- it starts
 
-  pub starts_in : (life : LifeState) → Begins w.name 0 life served'.slot w.served.slot desk'.caller.work w.desk.caller.work → AsksFor (shows w.served.starter).asked (shows served'.starter).asked w.name (next_life w.served.slot) → (shows served'.starter).faults ≡ (shows w.served.starter).faults
+  pub starts_in : (tick : ℕ) (life : LifeState) → Begins w.name tick life served'.slot w.served.slot desk'.caller.work w.desk.caller.work → AsksFor (shows w.served.starter).asked (shows served'.starter).asked w.name (next_life w.served.slot) → (shows served'.starter).faults ≡ (shows w.served.starter).faults
       → vec_len served'.lives < vec_capacity served'.lives → IsIn d shows (Idle life.generation) AwaitsReady 0 life (served_at w served' desk')
-  starts_in life begins asks faults room =
+  starts_in tick life begins asks faults room =
       let starts = begins.starts in
-      let b : Started = record { server = w.served.slot.server; generation = next_life w.served.slot; tick = 0 } in
+      let b : Started = record { server = w.served.slot.server; generation = next_life w.served.slot; tick = tick } in
       let steps : Steps d (Start b ∷ []) w.desk desk' = noted_steps starts.stamp (Start b) _ leads (number_of off.at.serving) starts.noted in
       let g : ℕ = w.served.slot.made + 1 in
       let gen : life.generation ≡ next_life w.served.slot = ap (λ (l : LifeState). l.generation) begins.is in
@@ -169,7 +158,7 @@ module _ {L T : Type 0} {d : Domain} {shows : T → StarterShows} (w : ServerWor
       record {
         at = work_behind steps (started_more w.name w.served.slot.made (failed_starts w.served.slot.server.0 (theirs w.desk.caller.work)) (shows served'.starter) (shows w.served.starter) asks faults off.at.started) made (ap (failed_starts w.served.slot.server.0) steps.own) lived
             (called_by life (ap calls_of begins.is) steps (All-cons (λ (e : Event). is_call_of w.desk.caller.work.id.0 e ≡ false) (Start b) [] refl (All-nil (λ (e : Event). is_call_of w.desk.caller.work.id.0 e ≡ false))))
-            (floor_start w.desk.caller.work.clients w.desk.caller.work.id.0 (Start b) (theirs w.desk.caller.work) (either _) off.at.floor) (ap (λ (s : ServerSlot). s.server) starts.left) (ap (λ (s : ServerSlot). s.gone) starts.left)
+            (ap (λ (s : ServerSlot). s.server) starts.left) (ap (λ (s : ServerSlot). s.gone) starts.left)
             (start_calm w.desk desk' (record { stamp = starts.stamp; event = Start b }) (ap (λ (v : WorkState). v.own) starts.noted.made) seat tt refl off.at.told);
         last = record {
           server = ap (λ (l : LifeState). l.server) begins.is ∙ ap (λ (s : ServerSlot). s.server) (sym starts.left);
@@ -187,17 +176,17 @@ module _ {L T : Type 0} {d : Domain} {shows : T → StarterShows} (w : ServerWor
         room = room;
       }
 
-  pub starts_goes : (life : LifeState) → Begins w.name 0 life served'.slot w.served.slot desk'.caller.work w.desk.caller.work → Goes d w (served_at w served' desk')
-  starts_goes life begins =
-      let b : Started = record { server = w.served.slot.server; generation = next_life w.served.slot; tick = 0 } in
+  pub starts_goes : (tick : ℕ) (life : LifeState) → Begins w.name tick life served'.slot w.served.slot desk'.caller.work w.desk.caller.work → Goes d w (served_at w served' desk')
+  starts_goes tick life begins =
+      let b : Started = record { server = w.served.slot.server; generation = next_life w.served.slot; tick = tick } in
       goes_by w (served_at w served' desk') (Start b ∷ []) (noted_steps begins.starts.stamp (Start b) _ leads (number_of off.at.serving) begins.starts.noted) (ap (λ (s : ServerSlot). s.server) begins.starts.left) refl refl
 
   -- its start fails
 
-  pub fails_off : FailsToStart 0 (next_life w.served.slot) served'.slot w.served.slot desk'.caller.work w.desk.caller.work → AsksFor (shows w.served.starter).asked (shows served'.starter).asked w.name (next_life w.served.slot) → Rose (shows w.served.starter).faults (shows served'.starter).faults
+  pub fails_off : (tick : ℕ) → FailsToStart tick (next_life w.served.slot) served'.slot w.served.slot desk'.caller.work w.desk.caller.work → AsksFor (shows w.served.starter).asked (shows served'.starter).asked w.name (next_life w.served.slot) → Rose (shows w.served.starter).faults (shows served'.starter).faults
       → IsOff d shows (served_at w served' desk') × ToldBefore desk'
-  fails_off fails asks rose =
-      let b : Started = record { server = w.served.slot.server; generation = next_life w.served.slot; tick = 0 } in
+  fails_off tick fails asks rose =
+      let b : Started = record { server = w.served.slot.server; generation = next_life w.served.slot; tick = tick } in
       let steps : Steps d (StartFailed b ∷ []) w.desk desk' = noted_steps fails.stamp (StartFailed b) _ leads (number_of off.at.serving) fails.noted in
       let g : ℕ = w.served.slot.made + 1 in
       let here : (b.server.0 == w.served.slot.server.0) ≡ true = eq-eqb w.served.slot.server.0 w.served.slot.server.0 refl in
@@ -214,7 +203,7 @@ module _ {L T : Type 0} {d : Domain} {shows : T → StarterShows} (w : ServerWor
                 untold = λ h above. ap (due_in_life d.clients w.served.slot.server.0 h) steps.own ∙ still_untold (StartFailed b) h refl refl (omega (arith, above));
               })
               (called_off steps (All-cons (λ (e : Event). is_call_of w.desk.caller.work.id.0 e ≡ false) (StartFailed b) [] refl (All-nil (λ (e : Event). is_call_of w.desk.caller.work.id.0 e ≡ false))))
-              (floor_start w.desk.caller.work.clients w.desk.caller.work.id.0 (StartFailed b) (theirs w.desk.caller.work) (either _) off.at.floor) (ap (λ (s : ServerSlot). s.server) fails.left) (ap (λ (s : ServerSlot). s.gone) fails.left) (told_last ⊥ desk' told);
+              (ap (λ (s : ServerSlot). s.server) fails.left) (ap (λ (s : ServerSlot). s.gone) fails.left) (told_last ⊥ desk' told);
           off = ap (λ (s : ServerSlot). s.doing) fails.left ∙ off.off;
           up = ap (λ (s : ServerSlot). s.shut) fails.left ∙ off.up;
         },

@@ -37,6 +37,7 @@ use Rattle.xa_desk.specs.declared.stopped.Stopped.{Stopped}
 use Rattle.xa_desk.specs.declared.stopped.Stopped.TheVariants.{Here}
 use Rattle.xa_desk.specs.xa_held.Notes.{is_down_in}
 use Rattle.xa_desk.specs.Desks.{Leads, queue_page}
+use Rattle.xa_desk.specs.Ticking.{ReadsClock}
 use Rattle.xa_desk.specs.Serving.{Sees, TakesAs, OfDomain, IsServing, IsFallen, IsToTell}
 use Rattle.xa_desk.proofs.Leading.{leads_trans}
 use Rattle.xa_desk.specs.xa_server.declared.closing.Closing.{Closing}
@@ -126,6 +127,10 @@ module _ {d : Domain} where
   pub told_steps : {closing : Option Closing} {old new : Desk} → Tells d closing old new → Steps d [] old new
   told_steps {closing} {old} tells = still_steps tells.leads (ap (λ (desk : Desk). desk.caller.work.id) tells.rest) (ap (λ (desk : Desk). desk.caller.work.clients) tells.rest) (ap (λ (desk : Desk). desk.caller.work.own) tells.rest)
 
+  -- nor as the clock was read
+  pub read_steps : {tick : ℕ} {old new : Desk} → ReadsClock d tick old new → Steps d [] old new
+  read_steps reads = seen_steps reads.moves.leads reads.sees
+
   -- nothing was noted at a halt
   pub halted_steps : {old new : Desk} (n : ℕ) (halt : Halt) → Leads d old new → HaltsWith n new.caller.work old.caller.work halt → Steps d [] old new
   halted_steps {old} {new} n NoMemory leads same = still_steps leads (ap (λ (w : WorkState). w.id) same) (ap (λ (w : WorkState). w.clients) same) (halted_own old new n NoMemory same)
@@ -153,6 +158,18 @@ module _ {d : Domain} where
         ticket = is.ticket;
         reached = subst (λ (l : List Stamped). closing.stamp.0 ≤ last_stamp no_stamp l) (sym {A = List Stamped} same) (omega (arith, reached, more));
         noted = λ answered none. not_empty own rest (is.noted answered) (sym same ∙ none);
+      }
+
+  -- nor does it change as the clock is read
+  pub told_read : {tick : ℕ} {old new : Desk} → ReadsClock d tick old new → (closing : Option Closing) → IfSome closing (IsToTell d old) → IfSome closing (IsToTell d new)
+  told_read reads None is = tt
+  told_read {tick} {old} {new} reads (Some closing) is =
+      let same : new.caller.work.own ≡ old.caller.work.own = ap (λ (c : CallerState). c.work.own) reads.sees.1 in
+      record {
+        backed = subst (λ (l : List Stamped). IsBacked l closing) (sym {A = List Stamped} same) is.backed;
+        ticket = is.ticket;
+        reached = subst (λ (l : List Stamped). closing.stamp.0 ≤ last_stamp no_stamp l) (sym {A = List Stamped} same) is.reached;
+        noted = λ answered none. is.noted answered (sym {A = List Stamped} same ∙ none);
       }
 
   -- ---- one behind another

@@ -33,9 +33,10 @@ pub record IsNewest (a : Replied) (desk : Desk) : Type 0 where
   pub by : a.by.0 ≡ desk.caller.work.id.0
   pub sound : IsAnswer a.answer
 
--- by that reply a service is told what came of its call; it is told no tick
+-- by that reply a service is told what came of its call; it is told no tick and no descriptor
 abbrev pub IsReplyTo : Told → Reply → Desk → Type 0
 IsReplyTo tells.Done reply desk = reply ≡ replies.Done
 IsReplyTo (tells.Fault fault) reply desk = reply ≡ replies.Fault fault
 IsReplyTo (tells.Now tick) reply desk = ⊥
-IsReplyTo tells.Answered reply desk = (a : Replied) × IsNewest a desk × (reply ≡ replies.Answered 0 a.answer)
+IsReplyTo (tells.Descriptor descriptor) reply desk = ⊥
+IsReplyTo (tells.Answered descriptor) reply desk = (a : Replied) × IsNewest a desk × (reply ≡ replies.Answered descriptor a.answer)

@@ -10,7 +10,7 @@ use Rattle.xa_desk.specs.xa_events.declared.event.Ended.{Ended}
 use Rattle.xa_desk.specs.xa_events.declared.event.Doing.{Doing}
 use Rattle.xa_desk.specs.xa_events.declared.event.Doing.TheVariants as doings
 use Rattle.xa_desk.specs.xa_events.Words.{AtEach}
-use Rattle.xa_desk.specs.xa_events.Caller.{tick_floor, last_op, just_accepted}
+use Rattle.xa_desk.specs.xa_events.Caller.{last_op, just_accepted}
 use Rattle.xa_desk.specs.xa_events.Cases.{IsShut}
 use Rattle.xa_desk.specs.xa_queue.declared.entry.Entry.{Entry}
 use Rattle.xa_desk.specs.xa_held.Kept.{IsRight}
@@ -33,7 +33,7 @@ use Rattle.xa_desk.specs.xa_restart.Rule.{may_start_by}
 use Rattle.xa_desk.specs.declared.domain.Domain.{Domain}
 use Rattle.xa_desk.specs.declared.desk.Desk.{Desk}
 use Rattle.xa_desk.specs.declared.stopped.Stopped.{Stopped}
-use Rattle.xa_desk.specs.Desks.{IsDesk, Leads, FitsCalls}
+use Rattle.xa_desk.specs.Desks.{IsDesk, Leads, FitsCalls, shown_to}
 use Rattle.xa_desk.specs.Found.{SawAtQueue}
 use Rattle.xa_desk.specs.Serving.{IsServing, IsSentFor, IsTaken, IsToTell}
 use Rattle.xa_calls.specs.Going.{IsOut}
@@ -99,7 +99,7 @@ pub record Goes {L T : Type 0} (d : Domain) (old new : ServerWorker L T) : Type 
   pub queue : new.queue ≡ old.queue
 
 module _ {L T : Type 0} (d : Domain) (shows : T → StarterShows) where
-  -- at its work, with the life that goes on, if one does: the server wasn't given up, and the clock stands at 0
+  -- at its work, with the life that goes on, if one does: the server wasn't given up
   pub record IsAtWork (w : ServerWorker L T) (going : List LifeState) : Type 0 where
     pub is : IsDesk d w.desk
     pub serving : IsServing d w.queue.0 w.served.slot w.desk
@@ -107,7 +107,6 @@ module _ {L T : Type 0} (d : Domain) (shows : T → StarterShows) where
     pub started : HasStarted w.name w.served.slot.made (failed_starts w.served.slot.server.0 (theirs w.desk.caller.work)) (shows w.served.starter)
     pub lived : HasLived d w.name w.queue.0 w.served.slot.server.0 w.served.slot.made w.desk w.served.lives.items (map (λ (life : LifeState). life.generation) going)
     pub called : HasCalled d (calls_of_all w.served.lives.items ++ flat_map calls_of going) w.desk
-    pub floor : tick_floor w.desk.caller.work.clients w.desk.caller.work.id.0 (theirs w.desk.caller.work) ≡ 0
     pub left : w.served.slot.gone ≡ false
     pub cut : w.cut ≡ None
     pub told : ToldBy going w.desk
@@ -118,10 +117,16 @@ module _ {L T : Type 0} (d : Domain) (shows : T → StarterShows) where
     pub off : w.served.slot.doing ≡ doings.Off
     pub up : w.served.slot.shut ≡ false
 
-  -- and may be started
-  pub record MayGoOn (w : ServerWorker L T) : Type 0 where
+  -- and was never started
+  pub record IsUntried (w : ServerWorker L T) : Type 0 where
     pub off : IsOff w
-    pub may : may_start_by w.served.slot.restarts 0 ≡ true
+    pub none : w.served.slot.restarts.starts ≡ []
+
+  -- and may be started at that tick, which the clock showed its worker last
+  pub record MayGoOn (tick : ℕ) (w : ServerWorker L T) : Type 0 where
+    pub off : IsOff w
+    pub shown : tick ≡ shown_to w.desk
+    pub may : may_start_by w.served.slot.restarts tick ≡ true
 
   -- the server is in that life, of which so many requests wait for their RETURN
   pub record IsIn (doing : Doing) (turn : Turn) (waits : ℕ) (life : LifeState) (w : ServerWorker L T) : Type 0 where

@@ -46,10 +46,10 @@ fn reply<L: Link>(desk: &Desk, life: Life<L>, told: Told) -> Result<Life<L>, End
     match told {
         Told::Done => life.reply(&Reply::Done),
         Told::Fault(fault) => life.reply(&Reply::Fault(fault)),
-        Told::Now(_) => unreachable!(),
-        Told::Answered => match desk.caller.entries() {
+        Told::Now(_) | Told::Descriptor(_) => unreachable!(),
+        Told::Answered(descriptor) => match desk.caller.entries() {
             [.., newest] => match &newest.event {
-                Event::Answer(replied) => life.reply_answer(0, &replied.answer),
+                Event::Answer(replied) => life.reply_answer(descriptor, &replied.answer),
                 _ => unreachable!(),
             },
             [] => unreachable!(),

@@ -15,9 +15,6 @@ use xa_desk::server::ServerSlot;
 use xa_desk::types::QueueId;
 use xa_desk::{Desk, Monitor, Stopped};
 
-// The clock isn't moved yet.
-pub(crate) const NOW: u64 = 0;
-
 // Gives up each request that waits at the queue, which is down.
 fn sweep<W: Wait, G: Gate>(
     monitor: &Monitor<'_, W, G>,
@@ -43,23 +40,24 @@ fn sweep<W: Wait, G: Gate>(
     unreachable!()
 }
 
-/// The server is given up; with the last one of its queue go the queue's rows, the queue, and what waits there.
+/// The server is given up, at that tick; with the last one of its queue go the queue's rows, the queue, and what waits there.
 pub(crate) fn retire<W: Wait, G: Gate>(
     monitor: &Monitor<'_, W, G>,
     desk: &mut Desk,
     slot: &mut ServerSlot,
     queue: QueueId,
+    tick: u64,
 ) -> Result<(), Stopped>
     requires domain { IsDomain monitor.now.domain.now }
     requires desk { IsDesk monitor.now.domain.now desk.old }
     requires serving { IsServing monitor.now.domain.now queue.0 slot.old desk.old }
-    requires may { MayBeGivenUp 0 slot.old desk.old.caller.work }
+    requires may { MayBeGivenUp tick slot.old desk.old.caller.work }
     requires left { slot.old.gone ≡ false }
     ensures retires { Retires monitor.now.domain.now slot.old slot.new desk.old desk.new }
     ensures result { RetiresAs monitor.now.domain.now queue.0 result slot.old desk.new }
 {
     let _itself = desk.caller.id();
-    if !desk.leave_queue(monitor.rt, monitor.domain, slot, queue, NOW)? {
+    if !desk.leave_queue(monitor.rt, monitor.domain, slot, queue, tick)? {
         return Ok(());
     }
     desk.clear(monitor.rt, monitor.domain, queue)?;

@@ -2,11 +2,11 @@
 ghost use Rattle.std.specs.Prelude.{◌≡◌, true, IfOk, IfErr, Some, None};
 ghost use Rattle.xa_desk.specs.xa_events.declared.event.Doing.TheVariants as doings;
 ghost use Rattle.xa_desk.specs.Desks.{IsDomain};
-ghost use Rattle.xa_server_worker.specs.Standing.{Goes, IsFree, MayGoOn, HasEnded, OffAs, why_of};
+ghost use Rattle.xa_server_worker.specs.Standing.{Goes, IsFree, IsUntried, MayGoOn, HasEnded, OffAs, why_of};
 ghost use Rattle.xa_server_worker.specs.Working.{MayServe, HasServed};
 
 use crate::living::{Exchanged, Off};
-use crate::retiring::{NOW, retire};
+use crate::retiring::retire;
 use crate::taking::next;
 use crate::telling::{tell, tell_if};
 use std::sync::Wait;
@@ -71,10 +71,14 @@ impl<L: Link, T: Starter<L>> ServerWorker<L, T> {
         }
     }
 
-    // One life, from its start to its end; a start that fails is one too.
-    fn live<W: Wait, G: Gate>(&mut self, monitor: &Monitor<'_, W, G>) -> Result<Off, Stopped>
+    // One life, from its start at that tick to its end; a start that fails is one too.
+    fn live<W: Wait, G: Gate>(
+        &mut self,
+        monitor: &Monitor<'_, W, G>,
+        tick: u64,
+    ) -> Result<Off, Stopped>
         requires domain { IsDomain monitor.now.domain.now }
-        requires off { MayGoOn monitor.now.domain.now T.shows self.old }
+        requires off { MayGoOn monitor.now.domain.now T.shows tick self.old }
         ensures goes { Goes monitor.now.domain.now self.old self.new }
         ensures off { IfOk result (λ off. OffAs monitor.now.domain.now T.shows off self.new) }
         ensures halted { IfErr result (λ stopped. HasEnded monitor.now.domain.now T.shows (Some stopped) self.new) }
@@ -87,7 +91,7 @@ impl<L: Link, T: Starter<L>> ServerWorker<L, T> {
             monitor.domain,
             &mut self.served,
             &self.name,
-            NOW,
+            tick,
         );
         let life = match started {
             Ok(Some(life)) => life,
@@ -103,24 +107,26 @@ impl<L: Link, T: Starter<L>> ServerWorker<L, T> {
         }
     }
 
-    // Lives as often as its restart rule allows.
+    // Lives as often as its restart rule allows, by what the clock shows.
     fn live_all<W: Wait, G: Gate>(&mut self, monitor: &Monitor<'_, W, G>) -> Result<(), Stopped>
         requires domain { IsDomain monitor.now.domain.now }
-        requires off { MayGoOn monitor.now.domain.now T.shows self.old }
+        requires off { IsUntried monitor.now.domain.now T.shows self.old }
         ensures goes { Goes monitor.now.domain.now self.old self.new }
         ensures ended { HasEnded monitor.now.domain.now T.shows (why_of result) self.new }
     {
+        let mut tick = self.desk.read_clock(monitor.rt, monitor.domain);
         for _ in monitor.rt.forever() {
-            let closing = match self.live(monitor)? {
+            let closing = match self.live(monitor, tick)? {
                 Off::Shut => return Ok(()),
                 Off::Dead(closing) => closing,
             };
-            if self.served.slot.may_start(NOW) {
+            tick = self.desk.read_clock(monitor.rt, monitor.domain);
+            if self.served.slot.may_start(tick) {
                 tell_if(monitor, &mut self.desk, closing);
                 continue;
             }
             let slot = &mut self.served.slot;
-            let retired = retire(monitor, &mut self.desk, slot, self.queue);
+            let retired = retire(monitor, &mut self.desk, slot, self.queue, tick);
             let _rises = self.desk.caller.latest();
             tell_if(monitor, &mut self.desk, closing);
             return retired;

@@ -3,7 +3,8 @@
 use crate::running::{End, Runtime, runs};
 use xa_program::LocalYard;
 
-const CONFIG: &[u8] = b"\
+/// The configuration.
+pub const CONFIG: &[u8] = b"\
     # A bank. Transfers are checked at the queue QT by one server, and accounts are kept at the queue QA by two.\n\
     # Each server is the monitor's own program, which has the routines TRANSFER, ACCT, LEN, FAIL and DIE.\n\
     \n\
@@ -64,7 +65,8 @@ const CONFIG: &[u8] = b"\
     routine = \"DIE\"\n\
     queues = [\"QA\"]\n";
 
-const SCRIPT: &[u8] = b"\
+/// The script.
+pub const SCRIPT: &[u8] = b"\
     # A script for `run examples/bank.toml`: two clients, each with its calls.\n\
     \n\
     client teller\n\

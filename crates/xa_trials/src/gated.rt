@@ -1,6 +1,6 @@
 //! Runs in which a gate says what happens first.
+use crate::rows::none_fails;
 use crate::running::{End, Runtime, run_of};
-use std::sync::atomic::{AtomicU32, Ordering};
 use xa_program::LocalYard;
 use xa_program::events::{Event, Evidence, Refused};
 use xa_program::link::{Gate, HoldUntil, MeetAt, Point};
@@ -88,33 +88,24 @@ fn servers_serve_beside_one_another(rt: HostRuntime) {
     assert!(rt; servers_meet(&rt));
 }
 
-// Holds the first server until two calls are over.
-#[derive(Drop)]
-struct UntilTwo {
-    over: AtomicU32,
-}
+// A script of one client, behind which call of it the server begins to take, what is written, and how many calls found the
+// queue full.
+type Full = (&'static [u8], u32, &'static [u8], u32);
 
-impl Gate for UntilTwo {
-    fn holds(&self, point: Point) -> bool {
-        point == Point::BeforeTake(ServerId(1)) && self.over.load(Ordering::SeqCst) < 2
-    }
-
-    fn passed(&self, point: Point) {
-        if let Point::AfterOp(..) = point {
-            let _ = self.over.fetch_add(1, Ordering::SeqCst);
-        }
-    }
-}
-
-const THREE: &[u8] = b"client a\ncall ECHO none noblock\n\
-    client b\ncall ECHO none noblock\n\
-    client c\ncall ECHO none noblock\n";
-
-// The one whose request came first is answered.
-const BLOCKED: &[&[u8]] = &[
-    b"a 1 OK 0 none\nb 1 TPEBLOCK\nc 1 TPEBLOCK\n",
-    b"a 1 TPEBLOCK\nb 1 OK 0 none\nc 1 TPEBLOCK\n",
-    b"a 1 TPEBLOCK\nb 1 TPEBLOCK\nc 1 OK 0 none\n",
+static FULL: [Full; 2] = [
+    (
+        b"client a\nacall ECHO none\nacall ECHO none noblock\nget 1\n",
+        2,
+        b"a 1 CD 1\na 2 TPEBLOCK\na 3 CD 1 OK 0 none\n",
+        1,
+    ),
+    // Who may wait does.
+    (
+        b"client a\nacall ECHO none\nacall ECHO none\nacall ECHO none\nget 3\nget 2\n",
+        1,
+        b"a 1 CD 1\na 2 CD 2\na 3 CD 3\na 4 CD 3 OK 0 none\na 5 CD 2 OK 0 none\n",
+        0,
+    ),
 ];
 
 fn is_refused_by_the_queue(event: &Event) -> bool {
@@ -129,26 +120,33 @@ fn is_refused_by_the_queue(event: &Event) -> bool {
     }
 }
 
-fn two_are_blocked<R: Runtime>(rt: &R) -> bool {
-    let gate = UntilTwo {
-        over: AtomicU32::new(0),
+fn is_blocked<R: Runtime>(rt: &R, (script, until, wrote, blocked): Full) -> bool {
+    let gate = HoldUntil::new(
+        Point::BeforeTake(ServerId(1)),
+        Point::AfterOp(CallerId(1), until),
+    );
+    let Some(history) = history_of(rt, &gate, ONE, script, &[wrote]) else {
+        return false;
     };
-    match history_of(rt, &gate, ONE, THREE, BLOCKED) {
-        Some(history) => {
-            let mut refused = 0_u32;
-            for event in history.as_slice() {
-                if is_refused_by_the_queue(event) {
-                    refused = refused.saturating_add(1);
-                }
-            }
-            refused == 2
+    let mut refused = 0_u32;
+    for event in history.as_slice() {
+        if is_refused_by_the_queue(event) {
+            refused = refused.saturating_add(1);
         }
-        None => false,
     }
+    refused == blocked
 }
 
-// Each of the others finds one request at the queue, which may have no more.
+fn first_not_blocked<R: Runtime>(rt: &R) -> Option<usize> {
+    for (place, row) in FULL.iter().enumerate() {
+        if !is_blocked(rt, *row) {
+            return Some(place);
+        }
+    }
+    None
+}
+
 #[test]
 fn a_full_queue_refuses_who_will_not_wait(rt: HostRuntime) {
-    assert!(rt; two_are_blocked(&rt));
+    none_fails(&rt, first_not_blocked(&rt));
 }

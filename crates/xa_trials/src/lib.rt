@@ -11,6 +11,8 @@ mod commands;
 #[cfg(test)]
 mod configurations;
 #[cfg(test)]
+mod descriptors;
+#[cfg(test)]
 mod ends;
 #[cfg(test)]
 mod forwards;

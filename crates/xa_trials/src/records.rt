@@ -1,4 +1,5 @@
 //! Records that the top call writes, and what it says of them when it reads them again.
+use crate::bank;
 use crate::rows::none_fails;
 use crate::running::{End, Files, Runtime, Script, runs, written_by};
 use std::alloc::Global;
@@ -117,6 +118,34 @@ fn is_written<R: Runtime>(rt: &R) -> bool {
         (Some(octets), Some(record)) => octets.as_slice() == record.as_slice(),
         _ => false,
     }
+}
+
+// What is said of a record that is a run: it has so many events as its last line tells.
+fn run_of_all(alloc: Global, record: &[u8]) -> Option<Vec<u8>> {
+    let mut many = None;
+    for line in record.split(|octet| *octet == b'\n') {
+        many = line.strip_prefix(b"end ").or(many);
+    }
+    joined(alloc, &[b"run of ", many?, b" events\n"])
+}
+
+// Whether what the run of that configuration and script leaves is judged as a run.
+fn is_judged_a_run<R: Runtime>(rt: &R, config: &[u8], script: &[u8]) -> bool {
+    let Some(record) = record_of(rt, config, script) else {
+        return false;
+    };
+    match run_of_all(rt.alloc(), &record) {
+        Some(said) => {
+            let files: [(&[u8], &[u8]); 1] = [(b"r", &record)];
+            tells(rt, (&files, &[]), (b"", &[], &[]), (End::Done, &said))
+        }
+        None => false,
+    }
+}
+
+#[test]
+fn the_record_of_the_bank_is_judged_a_run(rt: HostRuntime) {
+    assert!(rt; is_judged_a_run(&rt, bank::CONFIG, bank::SCRIPT));
 }
 
 #[test]

@@ -8,9 +8,13 @@ use xa_program::events::{Event, StopCause};
 use xa_program::link::{Gate, MemoryYard, OpenGate, Point};
 use xa_program::types::{CallerId, ServerId};
 
-// The clock stands at 0, so each start counts by each GRACE.
+// Where the clock stands at 0, each start counts by each GRACE.
 pub const TWO_STARTS: &[u8] = b"[[queue]]\nname = \"Q\"\n\
     [[server]]\nname = \"S\"\nqueue = \"Q\"\nrestart = true\nmaxgen = 2\ngrace = 1\n\
+    [[service]]\nname = \"ECHO\"\nqueues = [\"Q\"]\n";
+
+const TWO_IN_TEN: &[u8] = b"[[queue]]\nname = \"Q\"\n\
+    [[server]]\nname = \"S\"\nqueue = \"Q\"\nrestart = true\nmaxgen = 2\ngrace = 10\n\
     [[service]]\nname = \"ECHO\"\nqueues = [\"Q\"]\n";
 
 const THREE_STARTS: &[u8] = b"[[queue]]\nname = \"Q\"\n\
@@ -49,6 +53,10 @@ pub const TWO: &[u8] = b"client a\ncall ECHO none\ncall ECHO none\n";
 
 const THREE: &[u8] = b"client a\ncall ECHO none\ncall ECHO none\ncall ECHO none\n";
 
+const AT_NINE: &[u8] = b"client a\ncall ECHO none\ntick 9\ncall ECHO none\ncall ECHO none\n";
+
+const AT_TEN: &[u8] = b"client a\ncall ECHO none\ntick 10\ncall ECHO none\ncall ECHO none\n";
+
 const FIVE: &[u8] = b"client a\ncall ECHO text \"x\"\ncall ECHO text \"y\"\ncall ECHO text \"z\"\n\
     call ECHO text \"w\"\ncall ECHO none\n";
 
@@ -78,7 +86,7 @@ pub type Row = (
     &'static [Noted],
 );
 
-static ROWS: [Row; 12] = [
+static ROWS: [Row; 14] = [
     // Two starts that fail count.
     (
         THREE_STARTS,
@@ -129,6 +137,36 @@ static ROWS: [Row; 12] = [
         ],
         b"a 1 TPESVCERR\na 2 OK 0 octet 79\na 3 TPESVCERR\na 4 TPENOENT\na 5 TPENOENT\n",
         &[Noted::Start(1), ENDED, Noted::Start(2), ENDED, Noted::Gone],
+    ),
+    // A start counts for as many ticks as GRACE: at tick 9 two starts of tick 0 count, at tick 10 none of them does.
+    (
+        TWO_IN_TEN,
+        AT_NINE,
+        &[EXITS, EXITS, ANSWERS],
+        b"a 1 TPESVCFAIL 1 none\na 2 NOW 9\na 3 TPESVCFAIL 1 none\na 4 TPENOENT\n",
+        &[
+            Noted::Start(1),
+            EXITED,
+            Noted::Start(2),
+            EXITED,
+            Noted::Gone,
+        ],
+    ),
+    (
+        TWO_IN_TEN,
+        AT_TEN,
+        &[EXITS, EXITS, EXITS, ANSWERS],
+        b"a 1 TPESVCFAIL 1 none\na 2 NOW 10\na 3 TPESVCFAIL 1 none\na 4 TPESVCFAIL 1 none\n",
+        &[
+            Noted::Start(1),
+            EXITED,
+            Noted::Start(2),
+            EXITED,
+            Noted::Start(3),
+            EXITED,
+            Noted::Start(4),
+            SHUT,
+        ],
     ),
     // Without RESTART there is one life, whatever MAXGEN is.
     (

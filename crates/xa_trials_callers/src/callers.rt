@@ -346,7 +346,7 @@ fn tell<R: Abort>(rt: &R, alloc: Global, setup: &Setup, calls: &[Call]) -> Optio
         work,
         seat,
         halt: _,
-    } = caller.leave();
+    } = caller.leave(&cells);
     let failed = first_not_told(&work.home(), calls);
     assert!(rt; close(rt, alloc, cells, seat) == 50);
     failed
@@ -537,7 +537,7 @@ fn first_not_wished<R: Abort>(
         work: _,
         seat,
         halt: _,
-    } = caller.leave();
+    } = caller.leave(&cells);
     assert!(rt; close(rt, alloc, cells, seat) == 50);
     failed
 }

@@ -464,7 +464,7 @@ pub fn open<R: Abort>(rt: &R, alloc: Global, setup: &Setup) -> (Cells<Filling>, 
     };
     let seat = only_seat(rt, seats);
     let work = Work::new(alloc, setup, 1, CallerId(1), Stamp(0));
-    let caller = Caller::new(work, seat, VERSION);
+    let caller = Caller::new(alloc, work, seat, VERSION);
     (cells, Client { caller, last: 0 })
 }
 

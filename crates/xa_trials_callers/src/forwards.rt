@@ -146,7 +146,7 @@ fn worker_of<R: Abort>(
         panic!(rt; "no memory")
     };
     let work = Work::new(alloc, setup, 1, CallerId(2), Stamp(0));
-    let mut caller = Caller::new(work, seat, VERSION);
+    let mut caller = Caller::new(alloc, work, seat, VERSION);
     let mut slot = ServerSlot::new(ServerId(1), restarts);
     if !slot.may_start(0) {
         panic!(rt; "it may not start")
@@ -521,7 +521,7 @@ fn is_so<R: Abort>(rt: &R, alloc: Global, setup: &Setup, row: &Row) -> bool
         work,
         seat: own,
         halt: _,
-    } = caller.leave();
+    } = caller.abandon(&cells);
     let ended = end_in(&work.home());
     close_cells(rt, alloc, cells, seat, own);
     let (_, _, _, _, _, end) = *row;
@@ -584,7 +584,7 @@ fn a_halt_tells_the_caller_of_a_request_in_hand(rt: HostRuntime) {
         work,
         seat: own,
         halt: _,
-    } = caller.leave();
+    } = caller.abandon(&cells);
     drop(work);
     close_cells(&rt, alloc, cells, seat, own);
     assert!(rt; right);

@@ -136,7 +136,7 @@ fn scripts_are_read_or_their_first_fault_is_told(rt: HostRuntime) {
 }
 
 // A line behind that of a client, and its least cause; 0 where it is read.
-static LINES: [(&[u8], u8); 119] = [
+static LINES: [(&[u8], u8); 121] = [
     (b"bogus", 2),
     (b"Call TEST1 none", 2),
     (b"clients b", 2),
@@ -206,22 +206,24 @@ static LINES: [(&[u8], u8); 119] = [
     (b"call TEST1 c entry mark=-1", 8),
     (b"acall", 4),
     (b"acall TEST1 none noreply", 9),
+    (b"acall TEST1 c entry account=7 notime noblock", 0),
     (b"acall TEST1 none nochange octet", 4),
     (b"acall TEST1 c other", 8),
     (b"get", 4),
     (b"get x", 4),
     (b"get 01", 4),
     (b"get -1", 4),
-    (b"get 18446744073709551615 noblock", 9),
+    (b"get 18446744073709551615 noblock", 0),
     (b"get 18446744073709551616", 4),
     (b"get 1 2", 4),
-    (b"get 1 nochange c:entry", 9),
+    (b"get 1 nochange c:entry", 0),
     (b"get 1 nochange c:other", 8),
-    (b"getany", 9),
+    (b"getany", 0),
+    (b"getany nochange octet noreply noblock", 0),
     (b"getany 1", 4),
     (b"getany nochange c:other notime", 8),
     (b"cancel", 4),
-    (b"cancel 1", 9),
+    (b"cancel 1", 0),
     (b"cancel 1 noblock", 4),
     (b"connect TEST1 none", 4),
     (b"connect TEST1 none up", 4),

@@ -271,7 +271,7 @@ pub static FORWARDS: [History; 6] = [
 ];
 
 /// Servers that end, and a board that changes.
-pub static LIVES: [History; 3] = [
+pub static LIVES: [History; 4] = [
     // all descriptors are in use
     (
         Domain::Echo,
@@ -288,6 +288,18 @@ pub static LIVES: [History; 3] = [
                 Step::Each(Each::Serve, 2, 51),
             ],
             ENDING,
+        ],
+        None,
+    ),
+    // a server can't be started
+    (
+        Domain::Echo,
+        1,
+        &[
+            &[Step::Boot(b"ECHO", b"ECHO", 1), Step::StartFailed(1, 1)],
+            GIVEN_OVER,
+            &[Step::Refused(1, Fault::NoEnt, Shown::Version(2))],
+            PARTING,
         ],
         None,
     ),

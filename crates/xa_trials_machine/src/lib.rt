@@ -11,4 +11,6 @@ mod records;
 #[cfg(test)]
 mod replays;
 #[cfg(test)]
+mod spellings;
+#[cfg(test)]
 mod steps;

@@ -104,8 +104,18 @@ static ROWS: [Row; 27] = [
         &[HEAD, ECHO, CLIENT, BOOT, TWO_CALLS],
         Told::Verdict(Verdict::At(4)),
     ),
-    // a second configuration, octets, and a feed behind the end
-    (&[HEAD, ECHO, b"\nclients 0\nend 0\n", HEAD], Told::Line(4)),
+    // a second record, octets, and a feed behind the end
+    (
+        &[
+            HEAD,
+            ECHO,
+            b"\nclients 0\nend 0\n",
+            HEAD,
+            ECHO,
+            b"\nclients 0\nend 0\n",
+        ],
+        Told::Line(4),
+    ),
     (&[HEAD, ECHO, b"\nclients 0\nend 0\nx"], Told::Line(4)),
     (&[HEAD, ECHO, b"\nclients 0\nend 0\n\n"], Told::Line(4)),
     // the end left out, and without its feed

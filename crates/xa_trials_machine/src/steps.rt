@@ -73,6 +73,7 @@ pub enum Step {
     Tick(u16, u32, u64),
     /// Server and generation.
     Start(u16, u64),
+    StartFailed(u16, u64),
     /// Caller, number, server, generation.
     End(u16, u64, u16, u64, Way),
     /// Server and generation.
@@ -364,6 +365,11 @@ fn of_queue(step: Step) -> Option<Event> {
         Step::Down(queue) => Event::Down(QueueId(queue)),
         Step::Close(queue) => Event::Close(QueueId(queue)),
         Step::Start(server, generation) => Event::Start(Started {
+            server: ServerId(server),
+            generation: Generation(generation),
+            tick: 0,
+        }),
+        Step::StartFailed(server, generation) => Event::StartFailed(Started {
             server: ServerId(server),
             generation: Generation(generation),
             tick: 0,

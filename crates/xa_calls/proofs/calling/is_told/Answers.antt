@@ -1,4 +1,4 @@
-use Rattle.std.proofs.Common.{refl, sym, ◌∙◌, subst}
+use Rattle.std.proofs.Common.{refl, sym, ◌∙◌, subst, false}
 use Rattle.xa_calls.specs.Telling.{LookNotes}
 use Rattle.xa_calls.specs.Going.{told_by}
 use Rattle.xa_calls.proofs.Going.{replied_on}
@@ -9,7 +9,7 @@ use Rattle.xa_calls.proofs.calling.is_told.Goals as goal
 pub returns-clause-goes : goal.returns-clause-goes
 returns-clause-goes c =
     let look = c.look_for_reply in
-    replied_on c.args.domain.now c.args.ask.now c.args.desk.now.caller.op c.args.ask.now.expect look.result c.args.desk.now look.new.self look.ensures.leads (look.ensures.fits c.args.ask.now refl) look.ensures.step look.ensures.rest
+    replied_on c.args.domain.now false c.args.ask.now c.args.desk.now.caller.op c.args.ask.now.expect look.result c.args.desk.now look.new.self look.ensures.leads (look.ensures.fits c.args.ask.now refl) look.ensures.step look.ensures.rest
 
 pub returns-clause-pends : goal.returns-clause-pends
 returns-clause-pends c =

@@ -1,4 +1,5 @@
 use Rattle.std.proofs.Common.{◌+◌, refl, sym, subst, arith}
+use Rattle.xa_calls.proofs.Going.{wants_of}
 use Rattle.xa_calls.specs.Going.{tried_by}
 use Rattle.xa_calls.specs.Telling.{TriedNotes}
 use Rattle.xa_calls.proofs.Noting.{unsent_notes, may_tried}
@@ -9,7 +10,7 @@ use Rattle.xa_calls.proofs.sending.give_up.Goals as goal
 pub returns-clause-goes : goal.returns-clause-goes
 returns-clause-goes g c = record {
   leads = c.unsent.ensures.leads;
-  fits = c.unsent.ensures.fits c.args.ask.now c.requires.valid refl c.requires.found;
+  fits = c.unsent.ensures.fits c.args.ask.now c.requires.valid refl c.requires.found c.args.apart (wants_of c.args.monitor.now.domain.now.setup c.args.apart c.args.ask.now c.requires.valid);
   same = unsent_same c.args.entry.cargo.ticket.cell c.args.why c.args.ask.now.flags.no_block c.unsent.result c.args.desk.now c.unsent.new.self c.unsent.ensures.unsent;
   fills = unsent_fills c.args.entry.cargo.ticket.cell c.args.why c.args.ask.now.flags.no_block c.unsent.result c.args.desk.now c.unsent.new.self c.unsent.ensures.unsent;
 }

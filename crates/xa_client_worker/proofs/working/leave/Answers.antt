@@ -21,7 +21,7 @@ returns-in-Ok-clause-ended c =
       leads = left.2;
       fits = left.4;
       same = leaves_same d desk left.0 halt left.3;
-      all = λ none. leaves_made d desk left.0.caller.work halt ready c.id-itself.ensures.sound (sym c.here_by-stopped.ensures ∙ none) left.3;
+      all = λ none. leaves_made d desk left.0 halt ready c.id-itself.ensures.sound (sym c.here_by-stopped.ensures ∙ none) left.5 left.3;
       halts = subst (λ (stopped : Option Stopped). IfSome stopped (IsStopAt left.0)) (sym c.here_by-stopped.ensures) (leaves_halted d desk left.0 halt left.3);
     }
 
@@ -34,7 +34,7 @@ returns-in-Err-clause-ended c =
       ended = left.0;
       left = left.1;
       leads = left.2;
-      fits = given_up_fits d desk left.0 left.2 left.3;
+      fits = given_up_fits d desk left.0 left.2 left.3 left.6;
       same = same_by desk left.0 _ left.3 refl refl refl;
       all = λ none. absurd (cc none);
       halts = stopped_still d desk left.0 c.in-Err.stopped left.3 (subst (λ made. IfErr made (IsStopped desk)) c.in-Err.is c.requires.out).1;

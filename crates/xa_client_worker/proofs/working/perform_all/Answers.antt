@@ -1,11 +1,11 @@
-use Rattle.std.proofs.Common.{ℕ, ◌+◌, sym, ap, subst}
+use Rattle.std.proofs.Common.{Bool, true, ℕ, ◌+◌, sym, ap, subst}
 use Rattle.std.proofs.lemmas.List.Elements.{All-get_or}
 use Rattle.xa_calls.specs.Going.{PerformsBy, IsCall, IsReady as IsReadyAt}
 use Rattle.xa_client_worker.proofs.Ending.{through_one, ready_behind}
 use Rattle.xa_client_worker.proofs.working.perform_all.Goals as goal
 
 pub perform-requires-clause-kind : goal.perform-requires-clause-kind
-perform-requires-clause-kind g c κs within = subst IsCall (sym c.op-item.is) (All-get_or IsCall c.args.ops.now c.loop-op.op-index c.op-item.result c.loop-op-test.true c.requires.calls)
+perform-requires-clause-kind g c κs within = subst (λ (client : Bool). IsCall client c.op-item.result) (sym c.loop-op.invariant.ready.client) (subst (IsCall true) (sym c.op-item.is) (All-get_or (IsCall true) c.args.ops.now c.loop-op.op-index c.op-item.result c.loop-op-test.true c.requires.calls))
 
 pub returns-in_err-perform-clause-goes : goal.returns-in_err-perform-clause-goes
 returns-in_err-perform-clause-goes g c =

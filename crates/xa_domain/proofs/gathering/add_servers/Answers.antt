@@ -68,7 +68,7 @@ loop-server-preserved g c =
     record {
       so_far = λ itself desks before.
           servers_more c.args.domain.now shows itself desks c.args.servers.items c.args.all.now before rest left w done ended.0 now new c.home.result (c.loop-server.invariant.so_far itself desks before) c.in-Some.ensures.items
-          ended.1 (record { leads = ended.2; work = ended.3; fills = ended.5 }) c.first_of-all.ensures c.add.ensures c.push_reserved.ensures.items c.home.ensures.entries c.home.ensures.sound
+          ended.1 (record { leads = ended.2; work = ended.3; phase = ended.6; fills = ended.5 }) c.first_of-all.ensures c.add.ensures c.push_reserved.ensures.items c.home.ensures.entries c.home.ensures.sound
           c.push_reserved-in-Some.ensures.items c.push_reserved-in-Some-2.ensures.items c.push_reserved-in-Some-3.ensures.items;
       space = record {
         worker_space = one_worker_less (length left) (length rest) done.left.seat done.board done.queues.items done.clock c.home.result now new one c.add.ensures c.push_reserved.ensures.items c.push_reserved.ensures.capacity space.worker_space;

@@ -24,9 +24,9 @@ returns-in-Fault-clause-sent g c =
 pub returns-in-Answer-clause-sent : goal.returns-in-Answer-clause-sent
 returns-in-Answer-clause-sent g c =
     ok_weaker _ (λ new. (reply : ReplyOf) → IsReplyTo c.args.told reply c.args.desk.now → Invoked (reply_frame (tag_of c.args.life) reply) new c.args.life)
-    (λ new sent reply by. reply_answered (λ (r : ReplyOf). Invoked (reply_frame (tag_of c.args.life) r) new c.args.life) c.args.told c.in-Answer.replied reply c.args.desk.now c.entries.result.now c.newest-item.result c.in-Answered.is c.entries.ensures c.newest-item.is c.in-Answer.is by sent) c.reply_answer.result c.reply_answer.ensures.sent
+    (λ new sent reply by. reply_answered (λ (r : ReplyOf). Invoked (reply_frame (tag_of c.args.life) r) new c.args.life) c.args.told c.in-Answered.descriptor c.in-Answer.replied reply c.args.desk.now c.entries.result.now c.newest-item.result c.in-Answered.is c.entries.ensures c.newest-item.is c.in-Answer.is by sent) c.reply_answer.result c.reply_answer.ensures.sent
 
 pub returns-in-Answer-clause-over : goal.returns-in-Answer-clause-over
 returns-in-Answer-clause-over g c =
     err_weaker _ (λ over. (reply : ReplyOf) → IsReplyTo c.args.told reply c.args.desk.now → Unsent (reply_frame (tag_of c.args.life) reply) over c.args.life)
-    (λ over unsent reply by. reply_answered (λ (r : ReplyOf). Unsent (reply_frame (tag_of c.args.life) r) over c.args.life) c.args.told c.in-Answer.replied reply c.args.desk.now c.entries.result.now c.newest-item.result c.in-Answered.is c.entries.ensures c.newest-item.is c.in-Answer.is by unsent) c.reply_answer.result c.reply_answer.ensures.over
+    (λ over unsent reply by. reply_answered (λ (r : ReplyOf). Unsent (reply_frame (tag_of c.args.life) r) over c.args.life) c.args.told c.in-Answered.descriptor c.in-Answer.replied reply c.args.desk.now c.entries.result.now c.newest-item.result c.in-Answered.is c.entries.ensures c.newest-item.is c.in-Answer.is by unsent) c.reply_answer.result c.reply_answer.ensures.over

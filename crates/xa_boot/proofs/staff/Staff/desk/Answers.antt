@@ -1,4 +1,4 @@
-use Rattle.std.proofs.Common.{List, None, length, ap, ◌∙◌, arith}
+use Rattle.std.proofs.Common.{List, [], None, length, ap, ◌∙◌, arith}
 use Rattle.xa_client_worker.specs.xa_stamp.declared.home.Stamped.{Stamped}
 use Rattle.xa_client_worker.specs.xa_worker.Work.{WorkState}
 use Rattle.xa_client_worker.specs.xa_caller.declared.phase.Phase.TheVariants.{Idle}
@@ -20,5 +20,5 @@ returns c =
       staff = staff;
       desk_is = new_desk d old.own c.next-seat.new.self.left c.next-seat.result c.new.result c.next-seat.new.self.version (omega (arith, some, left)) c.requires.staff.boot (hires.is_post d c.requires.staff) c.requires.staff.booted
           (staff.version ∙ ap (λ (l : List Stamped). length l) hires.own)
-          (c.new.ensures ∙ ap (λ (w : WorkState). record { work = w; seat = c.next-seat.result.seat; op = 0; sent = 0; least = c.next-seat.new.self.version; priority = None; phase = Idle }) c.new-work.ensures);
+          (c.new.ensures ∙ ap (λ (w : WorkState). record { work = w; seat = c.next-seat.result.seat; op = 0; sent = 0; least = c.next-seat.new.self.version; priority = None; out = []; phase = Idle }) c.new-work.ensures);
     }

@@ -1,4 +1,4 @@
-use Rattle.std.proofs.Common.{◌≡◌, true, refl, sym, ◌∙◌, ap, subst}
+use Rattle.std.proofs.Common.{◌≡◌, ◌+◌, length, true, refl, sym, ◌∙◌, ap, subst}
 use Rattle.xa_types.specs.declared.data.Data.{Data}
 use Rattle.xa_types.specs.declared.row.Row.{Row}
 use Rattle.xa_types.specs.declared.ids.RequestId.{RequestId}
@@ -13,12 +13,13 @@ use Rattle.xa_caller.specs.declared.phase.Draft.{Draft}
 use Rattle.xa_caller.specs.declared.phase.Phase.{Phase}
 use Rattle.xa_caller.specs.declared.phase.Phase.TheVariants.{Prepared}
 use Rattle.xa_caller.specs.Drafts.{accepted_by}
-use Rattle.xa_caller.specs.Phases.{places_in}
-use Rattle.xa_caller.specs.Caller.{CallerState, AreRowsOf}
-use Rattle.xa_caller.specs.Kept.{standing_of, Holds}
+use Rattle.xa_caller.specs.Phases.{JustIs, Describes, places_in, drafted}
+use Rattle.xa_events.specs.Caller.{accepted_in}
+use Rattle.xa_caller.specs.Caller.{CallerState, AreRowsOf, view_of}
+use Rattle.xa_caller.specs.Kept.{standing_of, Holds, IsSeated}
 use Rattle.xa_caller.specs.Unsent.{AimsAt}
 use Rattle.xa_caller.proofs.Next.{row-priority}
-use Rattle.xa_caller.proofs.Reading.{reads_redrawn}
+use Rattle.xa_caller.proofs.Reading.{reads_moved}
 use Rattle.xa_caller.proofs.Unsent.{at-all}
 use Rattle.xa_held.specs.Kept.{IsRight}
 use Rattle.xa_caller.proofs.Tickets.{right_aimed}
@@ -31,8 +32,8 @@ invariant_of-self c =
     let w : WorkState = c.self.inside.work in
     let draft : Draft = c.draft_in-op.result in
     let was : s.phase ≡ Prepared draft = sym c.take_out.ensures.0 ∙ c.draft_in-op.ensures in
-    let held = subst (Holds w.setup w.id w.room s.op s.sent s.least s.priority) was i.holds in
-    let d = held.1 in
+    let held = subst (Holds w.setup w.id s.seat w.room s.op s.sent s.least s.priority c.self.inside.out) was i.holds in
+    let d = held.5 in
     let redrawn : Draft = record draft { event = c.of-event_noted.result } in
     let now : c.set.new.phase ≡ Prepared redrawn = c.set.ensures in
     let row : Row = c.in-Some.row in
@@ -40,9 +41,13 @@ invariant_of-self c =
     let rows = subst (λ (t : CallerState). AreRowsOf t.work.setup c.args.entry.cargo.invocation.service c.args.found.now.rows) (sym c.self.view_is) c.requires.rows in
     let all = at-all (λ (r : Row). r ≡ row_for w.setup c.args.entry.cargo.invocation.service r.queue.0 r.routine) c.args.found.now.rows c.args.attempt row (sym c.row_at.ensures ∙ c.in-Some.is) rows in
     record {
-      sound = record { reads = reads_redrawn w.setup _ s.op s.sent s.least s.priority s.phase c.set.new.phase draft redrawn was now i.sound.reads };
-      holds = subst (Holds w.setup w.id w.room s.op s.sent s.least s.priority) (sym now) (
+      sound = record { reads = reads_moved w.setup _ s.op s.sent s.least s.priority s.out s.out s.phase c.set.new.phase (subst (λ p. Describes s.out p (view_of w).descriptors) (sym now) (subst (λ p. Describes s.out p (view_of w).descriptors) was i.sound.reads.descriptors)) (subst (λ (p : Phase). JustIs s.out p (accepted_in (view_of w).called)) (sym now) (subst (λ (p : Phase). JustIs s.out p (accepted_in (view_of w).called)) was i.sound.reads.just)) i.sound.reads; served = i.sound.served };
+      holds = subst (Holds w.setup w.id s.seat w.room s.op s.sent s.least s.priority c.self.inside.out) (sym now) (
         held.0,
+        held.1,
+        held.2,
+        held.3,
+        held.4,
         record {
           accepted = a;
           is = c.of-event_noted.ensures ∙ ap Accept c.accepted_by.ensures;
@@ -58,8 +63,8 @@ invariant_of-self c =
           priority_is = row-priority w.setup c.args.entry.cargo.invocation.service row s.priority all;
         },
       );
-      places = subst (λ p. OpenAre (places_in p) (known c.self.inside.seat)) (sym now) (subst (λ p. OpenAre (places_in p) (known c.self.inside.seat)) was i.places);
-      seated = i.seated;
+      places = subst (λ p. OpenAre (places_in s.out p) (known s.seat)) (sym now) (subst (λ p. OpenAre (places_in s.out p) (known s.seat)) was i.places);
+      seated = subst (λ p. IsSeated w.clients w.id s.seat (length (places_in s.out p)) (length (view_of w).unanswered + drafted p)) (sym now) (subst (λ p. IsSeated w.clients w.id s.seat (length (places_in s.out p)) (length (view_of w).unanswered + drafted p)) was i.seated);
       few = i.few;
     }
 

@@ -1,14 +1,14 @@
 use Rattle.std.proofs.Common.{◌≡◌, ◌≤◌, ◌<◌, true, sym, ◌∙◌, ap, subst, arith}
 use Rattle.xa_events.specs.declared.event.Event.{Event}
 use Rattle.xa_events.specs.Caller.{is_serving}
-use Rattle.xa_stamp.specs.declared.home.Stamped.{Stamped}
 use Rattle.xa_worker.specs.Work.{WorkState, noted, theirs}
 use Rattle.xa_caller.specs.declared.phase.Phase.TheVariants.{Idle}
-use Rattle.xa_caller.specs.Caller.{CallerState, IsSound}
+use Rattle.xa_caller.specs.Caller.{CallerState, IsSound, view_of}
 use Rattle.xa_caller.specs.Changes.{IsChangeBy}
-use Rattle.xa_caller.specs.Kept.{standing_of, Holds, IsSeated}
+use Rattle.xa_caller.specs.Kept.{standing_of}
+use Rattle.xa_caller.proofs.Keeping.{kept-idle, idle_room}
 use Rattle.xa_caller.proofs.Next.{changes_next, change_aside}
-use Rattle.xa_caller.proofs.Reading.{reads_changed}
+use Rattle.xa_caller.proofs.Reading.{reads_changed, owed_changed}
 use Rattle.xa_caller.proofs.caller.Caller.changed.Goals as goal
 
 pub noted-requires-clause-next : goal.noted-requires-clause-next
@@ -35,10 +35,8 @@ invariant_of-self c =
     let recent = subst (λ (t : CallerState). t.least ≤ c.args.version) (sym c.self.view_is) c.requires.recent in
     let later = subst (λ (t : CallerState). t.work.stamp.0 < c.args.stamp.0) (sym c.self.view_is) c.requires.later in
     let higher = ap (λ (v : WorkState). v.stamp.0) made in
-    record {
-      sound = subst (λ (v : WorkState). IsSound (record s { work = v; op = c.args.op; least = c.args.version })) (sym made) (record { reads = reads_changed s c.args.stamp c.args.op c.args.version e change (omega (arith, next, c.requires.turn)) recent idle i.sound.reads });
-      holds = subst (Holds c.noted.new.self.setup c.noted.new.self.id c.noted.new.self.room c.args.op s.sent c.args.version s.priority) (sym idle) tt;
-      places = i.places;
-      seated = subst (λ (v : WorkState). IsSeated v.clients v.id s.seat) (sym made) i.seated;
-      few = omega (arith, i.few, higher, later);
-    }
+    let room = ap (λ (v : WorkState). v.room) made in
+    let some = idle_room c.self.inside i idle in
+    kept-idle c.self.inside c.noted.new.self c.args.op c.args.version s.priority i idle
+    (subst (λ (v : WorkState). IsSound (record s { work = v; op = c.args.op; least = c.args.version })) (sym made) (record { reads = reads_changed s c.args.stamp c.args.op c.args.version e change (omega (arith, next, c.requires.turn)) recent idle i.sound.reads; served = i.sound.served }))
+    (ap (λ (v : WorkState). v.clients) made) (ap (λ (v : WorkState). v.id) made) (omega (arith, room, some)) (ap (λ (v : WorkState). (view_of v).unanswered) made ∙ owed_changed s c.args.stamp c.args.op c.args.version e change) (omega (arith, i.few, higher, later))

@@ -8,7 +8,8 @@ use Rattle.xa_caller.specs.declared.phase.Phase.TheVariants.{Idle}
 use Rattle.xa_caller.specs.Caller.{CallerState, Reads, IsSound, MayCall, view_of}
 use Rattle.xa_caller.proofs.Next.{refuses_next}
 use Rattle.xa_events.specs.Cases.{ShowsItself, IsOwnEvidence}
-use Rattle.xa_caller.specs.Kept.{standing_of, Holds, IsSeated}
+use Rattle.xa_caller.specs.Kept.{standing_of, IsKept}
+use Rattle.xa_caller.proofs.Keeping.{kept-idle, idle_room}
 use Rattle.xa_caller.proofs.Reading.{view-more, reads_refused}
 use Rattle.std.specs.Prelude.{IfSome}
 use Rattle.xa_events.specs.Caller.{version_in}
@@ -36,14 +37,16 @@ invariant_of-self-2 c =
     let idle : s.phase ≡ Idle = ap (λ (t : CallerState). t.phase) c.self.view_is ∙ c.requires.idle in
     let recent = subst (λ (t : CallerState). IfSome (version_in c.args.evidence) (λ v. t.least ≤ v)) (sym c.self.view_is) c.requires.recent in
     let higher = ap (λ (v : WorkState). v.stamp.0) made in
-    record {
-      sound = subst (λ (v : WorkState). IsSound (record s { work = v; op = c.args.op; least = c.least_by-least.result })) (sym made) (record {
-        reads = subst (λ least. Reads w.setup (view_of (noted x w)) c.args.op s.sent least s.priority s.phase) (sym c.least_by-least.ensures)
-            (subst (λ (view : CallerView). Reads w.setup view c.args.op s.sent (least_by (version_in c.args.evidence) s.least) s.priority s.phase) (sym (view-more w x by))
-            (reads_refused w.setup w.clients w.id.0 r (view_of w) s.op s.sent s.least s.priority s.phase by (omega (arith, c.requires.turn)) recent idle i.sound.reads));
-      });
-      holds = subst (Holds c.note_anew.new.self.setup c.note_anew.new.self.id c.note_anew.new.self.room c.args.op s.sent c.least_by-least.result s.priority) (sym idle) tt;
-      places = i.places;
-      seated = subst (λ (v : WorkState). IsSeated v.clients v.id s.seat) (sym made) i.seated;
-      few = omega (arith, i.few, higher, c.in_ok-stamp.ensures.stamp);
-    }
+    let room = ap (λ (v : WorkState). v.room) made in
+    let some = idle_room c.self.inside i idle in
+    kept-idle c.self.inside c.note_anew.new.self c.args.op c.least_by-least.result s.priority i idle
+    (subst (λ (v : WorkState). IsSound (record s { work = v; op = c.args.op; least = c.least_by-least.result })) (sym made) (record {
+      reads = subst (λ least. Reads w.setup (view_of (noted x w)) c.args.op s.sent least s.priority s.out s.phase) (sym c.least_by-least.ensures)
+          (subst (λ (view : CallerView). Reads w.setup view c.args.op s.sent (least_by (version_in c.args.evidence) s.least) s.priority s.out s.phase) (sym (view-more w x by))
+          (reads_refused w.setup w.clients w.id.0 r (view_of w) s.op s.sent s.least s.priority s.out s.phase by (omega (arith, c.requires.turn)) recent idle i.sound.reads));
+      served = i.sound.served;
+    }))
+    (ap (λ (v : WorkState). v.clients) made) (ap (λ (v : WorkState). v.id) made) (omega (arith, room, some)) (ap (λ (v : WorkState). (view_of v).unanswered) made ∙ ap (λ (view : CallerView). view.unanswered) (view-more w x by)) (omega (arith, i.few, higher, c.in_ok-stamp.ensures.stamp))
+
+pub invariant_of-self : goal.invariant_of-self
+invariant_of-self c = subst (λ (v : WorkState). IsKept (record c.self.inside { work = v })) (sym c.in_err-stamp.ensures.kept) c.self.invariant

@@ -6,7 +6,8 @@ use Rattle.xa_stamp.specs.declared.home.Stamped.{Stamped}
 use Rattle.xa_worker.specs.Work.{WorkState, noted}
 use Rattle.xa_caller.specs.declared.phase.Phase.TheVariants.{Idle}
 use Rattle.xa_caller.specs.Caller.{CallerState, Reads, IsSound, MayCall, view_of}
-use Rattle.xa_caller.specs.Kept.{standing_of, Holds, IsSeated}
+use Rattle.xa_caller.specs.Kept.{standing_of, IsKept}
+use Rattle.xa_caller.proofs.Keeping.{kept-idle, idle_room}
 use Rattle.xa_caller.proofs.Next.{sets_next}
 use Rattle.xa_caller.proofs.Reading.{view-more, reads_set}
 use Rattle.xa_caller.proofs.caller.Caller.set_priority.Goals as goal
@@ -29,13 +30,15 @@ invariant_of-self-2 c =
     let by : p.by.0 ≡ w.id.0 = ap (λ id. id.0) c.id.ensures.value in
     let idle : s.phase ≡ Idle = ap (λ (t : CallerState). t.phase) c.self.view_is ∙ c.requires.idle in
     let higher = ap (λ (v : WorkState). v.stamp.0) made in
-    record {
-      sound = subst (λ (v : WorkState). IsSound (record s { work = v; op = c.args.op; priority = Some (p.absolute, p.amount) })) (sym made) (record {
-        reads = subst (λ (view : CallerView). Reads w.setup view c.args.op s.sent s.least (Some (p.absolute, p.amount)) s.phase) (sym (view-more w x by))
-            (reads_set w.setup w.clients w.id.0 p (view_of w) s.op s.sent s.least s.priority s.phase by (omega (arith, c.requires.turn)) idle i.sound.reads);
-      });
-      holds = subst (Holds c.note_anew.new.self.setup c.note_anew.new.self.id c.note_anew.new.self.room c.args.op s.sent s.least (Some (p.absolute, p.amount))) (sym idle) tt;
-      places = i.places;
-      seated = subst (λ (v : WorkState). IsSeated v.clients v.id s.seat) (sym made) i.seated;
-      few = omega (arith, i.few, higher, c.in_ok-stamp.ensures.stamp);
-    }
+    let room = ap (λ (v : WorkState). v.room) made in
+    let some = idle_room c.self.inside i idle in
+    kept-idle c.self.inside c.note_anew.new.self c.args.op s.least (Some (p.absolute, p.amount)) i idle
+    (subst (λ (v : WorkState). IsSound (record s { work = v; op = c.args.op; priority = Some (p.absolute, p.amount) })) (sym made) (record {
+      reads = subst (λ (view : CallerView). Reads w.setup view c.args.op s.sent s.least (Some (p.absolute, p.amount)) s.out s.phase) (sym (view-more w x by))
+          (reads_set w.setup w.clients w.id.0 p (view_of w) s.op s.sent s.least s.priority s.out s.phase by (omega (arith, c.requires.turn)) idle i.sound.reads);
+      served = i.sound.served;
+    }))
+    (ap (λ (v : WorkState). v.clients) made) (ap (λ (v : WorkState). v.id) made) (omega (arith, room, some)) (ap (λ (v : WorkState). (view_of v).unanswered) made ∙ ap (λ (view : CallerView). view.unanswered) (view-more w x by)) (omega (arith, i.few, higher, c.in_ok-stamp.ensures.stamp))
+
+pub invariant_of-self : goal.invariant_of-self
+invariant_of-self c = subst (λ (v : WorkState). IsKept (record c.self.inside { work = v })) (sym c.in_err-stamp.ensures.kept) c.self.invariant

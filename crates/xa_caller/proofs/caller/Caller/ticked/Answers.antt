@@ -5,11 +5,12 @@ use Rattle.xa_stamp.specs.declared.home.Stamped.{Stamped}
 use Rattle.xa_types.specs.declared.ids.CallerId.{CallerId}
 use Rattle.xa_worker.specs.Work.{WorkState, IsNext, noted}
 use Rattle.xa_caller.specs.declared.phase.Phase.TheVariants.{Idle}
-use Rattle.xa_caller.specs.Caller.{CallerState, IsSound}
+use Rattle.xa_caller.specs.Caller.{CallerState, IsSound, view_of}
 use Rattle.xa_caller.specs.Changes.{tick_of}
-use Rattle.xa_caller.specs.Kept.{standing_of, Holds, IsSeated}
+use Rattle.xa_caller.specs.Kept.{standing_of}
+use Rattle.xa_caller.proofs.Keeping.{kept-idle, idle_room}
 use Rattle.xa_caller.proofs.Next.{ticks_next}
-use Rattle.xa_caller.proofs.Reading.{reads_ticked}
+use Rattle.xa_caller.proofs.Reading.{reads_ticked, owed_ticked}
 use Rattle.xa_caller.proofs.caller.Caller.ticked.Goals as goal
 
 pub noted-requires-clause-next : goal.noted-requires-clause-next
@@ -31,10 +32,8 @@ invariant_of-self c =
     let idle : s.phase ≡ Idle = ap (λ (t : CallerState). t.phase) c.self.view_is ∙ c.requires.idle in
     let later = subst (λ (t : CallerState). t.work.stamp.0 < c.args.stamp.0) (sym c.self.view_is) c.requires.later in
     let higher = ap (λ (v : WorkState). v.stamp.0) made in
-    record {
-      sound = subst (λ (v : WorkState). IsSound (record s { work = v; op = c.args.op })) (sym made) (record { reads = reads_ticked s c.args.stamp c.args.op c.args.now (omega (arith, next, c.requires.turn)) idle i.sound.reads });
-      holds = subst (Holds c.noted.new.self.setup c.noted.new.self.id c.noted.new.self.room c.args.op s.sent s.least s.priority) (sym idle) tt;
-      places = i.places;
-      seated = subst (λ (v : WorkState). IsSeated v.clients v.id s.seat) (sym made) i.seated;
-      few = omega (arith, i.few, higher, later);
-    }
+    let room = ap (λ (v : WorkState). v.room) made in
+    let some = idle_room c.self.inside i idle in
+    kept-idle c.self.inside c.noted.new.self c.args.op s.least s.priority i idle
+    (subst (λ (v : WorkState). IsSound (record s { work = v; op = c.args.op })) (sym made) (record { reads = reads_ticked s c.args.stamp c.args.op c.args.now (omega (arith, next, c.requires.turn)) idle i.sound.reads; served = i.sound.served }))
+    (ap (λ (v : WorkState). v.clients) made) (ap (λ (v : WorkState). v.id) made) (omega (arith, room, some)) (ap (λ (v : WorkState). (view_of v).unanswered) made ∙ owed_ticked s c.args.stamp c.args.op c.args.now) (omega (arith, i.few, higher, later))

@@ -14,9 +14,10 @@ returns c =
       left = (
         ended,
         record { work = c.abandon-left.ensures.work.0; seat = refl; shut = c.abandon-left.ensures.shut; board = refl; queues = refl; clock = refl; reader = refl },
-        given_up_leads d desk c.requires.desk left.seat c.abandon-left.ensures.cells.0 c.abandon-left.ensures.filled,
+        given_up_leads d desk left.seat c.requires.desk c.abandon-left.ensures.cells.0 c.abandon-left.ensures.filled,
         refl,
         c.abandon-left.ensures.work.1,
         c.abandon-left.ensures.filled,
+        refl,
       );
     }

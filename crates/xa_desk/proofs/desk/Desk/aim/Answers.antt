@@ -1,7 +1,7 @@
-use Rattle.std.proofs.Common.{refl, sym, subst}
+use Rattle.std.proofs.Common.{refl, sym, ap, subst}
 use Rattle.xa_server.specs.xa_types.Found.{FoundRows}
 use Rattle.xa_server.specs.xa_caller.Caller.{AreRowsOf}
-use Rattle.xa_server.specs.xa_caller.Phases.{IsOfVersion}
+use Rattle.xa_server.specs.xa_caller.Phases.{just_in, IsOfVersion}
 use Rattle.xa_server.specs.xa_caller.Unsent.{AimsAs}
 use Rattle.xa_desk.proofs.Aiming.{aim_goes, aim_aims, aim_requires}
 use Rattle.xa_desk.proofs.desk.Desk.aim.Goals as goal
@@ -31,7 +31,7 @@ returns c =
     let new = c.aim.new.self in
     let found = desk.reader.found in
     let aims = subst (λ (rows : FoundRows). AimsAs c.args.entry rows.rows c.args.attempt c.aim.result new desk.caller) c.found.ensures c.aim.ensures.aims in
-    let goes = aim_goes d desk new found c.args.entry c.args.attempt c.aim.result aims c.requires.desk in
+    let goes = aim_goes d desk new found c.args.entry c.args.attempt c.aim.result aims c.requires.desk (ap just_in c.requires.found.3.prepared) in
     record {
       leads = goes.0;
       aims = aims;

@@ -1,22 +1,22 @@
 use Rattle.std.proofs.Common.{refl}
 use Rattle.xa_desk.specs.declared.desk.Desk.{Desk}
-use Rattle.xa_desk.proofs.Parting.{with_work, left_goes}
+use Rattle.xa_desk.proofs.Parting.{with_work, parted_goes}
+use Rattle.xa_desk.proofs.Telling.{reseated}
 use Rattle.xa_desk.proofs.desk.Desk.leave.Goals as goal
 
 pub returns : goal.returns
 returns c =
-    let d = c.args.domain.now in
     let desk = c.args.self in
-    let is = c.requires.desk in
     let left = c.leave-left.result in
-    let ended : Desk = with_work d desk is left.work in
-    let goes = left_goes d desk is left.halt left.work c.leave-left.ensures.work in
+    let ended : Desk = reseated (with_work desk left.work) left.seat in
+    let goes = parted_goes c.args.domain.now desk left.halt left.work left.seat c.requires.desk c.leave-left.ensures.work c.leave-left.ensures.cells.0 c.leave-left.ensures.filled in
     record {
       left = (
         ended,
-        record { work = refl; seat = c.leave-left.ensures.seat.0; shut = c.leave-left.ensures.seat.1; board = refl; queues = refl; clock = refl; reader = refl },
+        record { work = refl; seat = refl; shut = c.leave-left.ensures.shut; board = refl; queues = refl; clock = refl; reader = refl },
         goes.0,
         c.leave-left.ensures.work,
         goes.1,
+        c.requires.idle,
       );
     }

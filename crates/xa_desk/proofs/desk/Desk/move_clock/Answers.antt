@@ -1,4 +1,4 @@
-use Rattle.std.proofs.Common.{◌<◌, Some, refl, sym, ◌∙◌, ap, subst}
+use Rattle.std.proofs.Common.{◌<◌, Some, refl, sym, ◌∙◌, ap, subst, arith}
 use Rattle.xa_server.specs.xa_types.declared.ids.CallerId.{CallerId}
 use Rattle.xa_server.specs.xa_types.declared.stamp.Stamp.{Stamp}
 use Rattle.xa_server.specs.xa_lock.Known.{known as page_of}
@@ -7,7 +7,6 @@ use Rattle.xa_server.specs.xa_caller.Phases.{just_in}
 use Rattle.xa_ticks.specs.Visits.{TickedAs}
 use Rattle.xa_desk.specs.declared.desk.Desk.{Desk}
 use Rattle.xa_desk.proofs.Clocks.{ClockStep, clock_pass, tick_stamp, tick_goes, tick_fits, barred_goes, barred_by, barred_halts}
-use Rattle.xa_desk.proofs.Fitting.{is_read}
 use Rattle.xa_desk.proofs.desk.Desk.move_clock.Goals as goal
 
 pub tick_at-pass-requires-clause-lock : goal.tick_at-pass-requires-clause-lock
@@ -46,7 +45,7 @@ returns-in-Ok-clause-fits g c =
     let new : Desk = record desk { caller = c.ticked.new.self; clock = Some c.tick_at-pass.result.pass } in
     let step : ClockStep d desk new c.take_out.result c.tick_at-pass.result.pass = record { is = c.requires.desk; was = c.take_out.ensures.was; now = refl; board = refl; queues = refl; lock = c.tick_at-pass.ensures.lock } in
     tick_fits step c.stamp-seen.result c.stamp-seen.ensures.value c.id-by.result c.id-by.ensures.value c.args.op c.args.n c.in-Ok.moment c.tick_at-pass.result.last v c.tick_at-pass.ensures.reached c.ticked.ensures
-    (is_read d desk c.requires.desk c.id-by.ensures.sound) (ap just_in c.requires.idle)
+    (let turn = c.requires.turn in omega (arith, turn)) (ap just_in c.requires.idle)
 
 pub returns-in-Err-clause-moves : goal.returns-in-Err-clause-moves
 returns-in-Err-clause-moves g c =

@@ -1,11 +1,12 @@
-use Rattle.std.proofs.Common.{inl, inr, refl, sym, ◌∙◌, ap, subst, arith}
+use Rattle.std.proofs.Common.{Some, inl, inr, refl, sym, ◌∙◌, ap, subst, arith}
 use Rattle.std.specs.Prelude.{nat_lt}
 use Rattle.std.proofs.lemmas.Bool.{and_parts, ltb-true}
 use Rattle.xa_server.specs.xa_types.declared.call.Op.TheVariants.{Advertise as AdvertiseOp}
 use Rattle.xa_server.specs.xa_types.declared.ids.CallerId.{CallerId}
 use Rattle.xa_server.specs.xa_types.declared.stamp.Stamp.{Stamp}
 use Rattle.xa_server.specs.xa_events.declared.event.Event.{Event}
-use Rattle.xa_server.specs.xa_events.Caller.{op_in}
+use Rattle.xa_server.specs.xa_events.Caller.{op_in, is_call_of}
+use Rattle.xa_server.specs.xa_events.Calls.{awaits_answer}
 use Rattle.xa_server.specs.xa_held.Board.{Held, Turns, raised}
 use Rattle.xa_server.specs.xa_held.BoardSteps.{AdvertisedAs}
 use Rattle.xa_server.specs.xa_worker.Calls.{FitsOwn}
@@ -19,7 +20,8 @@ use Rattle.xa_desk.specs.Whole.{entries_of}
 use Rattle.xa_desk.specs.Advertising.{BarsPut, rows_seen}
 use Rattle.xa_desk.proofs.Boarding.{board_front, board_grew}
 use Rattle.xa_desk.proofs.BoardEntering.{may_leave_board, board_visited, none_there, one_there, advertise_adds}
-use Rattle.xa_desk.proofs.Fitting.{its_events, is_read}
+use Rattle.xa_server.proofs.xa_caller.Reading.{is_numbered}
+use Rattle.xa_desk.proofs.Fitting.{its_events}
 use Rattle.xa_desk.proofs.Advertising.{recent, change_leads, change_fits, put_event, of_row, put_ends, put_barred, barred_leads, rows_stood}
 use Rattle.xa_desk.proofs.desk.Desk.put_row.Goals as goal
 
@@ -72,11 +74,12 @@ returns-in-Ok-clause-fits g c named =
     let v = board_visited at c.value.ensures.value c.leave_board-last.ensures.left new refl refl refl (one_there desk c.id-maker.result _ c.id-maker.ensures.value refl) did in
     let above = ltb-true desk.caller.work.clients desk.caller.work.id.0 (and_parts (nat_lt desk.caller.work.clients desk.caller.work.id.0) _ c.requires.active).0 in
     let number = ap (λ (i : CallerId). i.0) c.id-maker.ensures.value in
+    let turn = c.requires.turn in
     let event = did.how.1.event_is ∙ put_event d.setup c.row_for-row.result c.args.service c.args.queue c.args.routine c.id-maker.result desk.caller.work.id c.args.op c.in-Ok.changed.version c.row_for-row.ensures c.id-maker.ensures.value in
     change_fits v.step c.stamp-seen.result c.stamp-seen.ensures.value c.id-maker.result c.in-Ok.changed _ _ _ v.came c.args.op tt refl c.changed.ensures
     (λ whole on. put_met d.setup _ _ c.id-maker.result whole.board (board_front v.step whole on) c.stamp-seen.result c.id-maker.result c.args.op c.row_for-row.result c.in-Ok.changed v.came (omega (arith, above, number)))
     (λ whole on. record { saw = tt; told = tt; clears = tt })
-    (AdvertiseOp c.args.service c.args.routine) (ap op_in event) (is_read d desk c.requires.desk c.id-maker.ensures.sound) (ap just_in c.requires.idle)
+    (AdvertiseOp c.args.service c.args.routine) (ap op_in event) (ap (is_call_of desk.caller.work.id.0) event ∙ is_numbered desk.caller.work.id.0 desk.caller.work.id.0 c.args.op refl (omega (arith, turn))) (λ ops. ap (λ (e : Event). awaits_answer ops (Some e)) event) (ap just_in c.requires.idle)
     (λ whole on. subst (λ (e : Event). FitsOwn d.setup d.clients (entries_of whole) c.in-Ok.changed.noted.stamp (AdvertiseOp c.args.service c.args.routine) e (its_events d desk)) (sym event) (named, refl, refl))
 
 pub returns-in-Err-clause-moves : goal.returns-in-Err-clause-moves

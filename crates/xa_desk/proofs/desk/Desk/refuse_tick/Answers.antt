@@ -1,4 +1,4 @@
-use Rattle.std.proofs.Common.{ℕ, Option, sym, ap, refl, subst}
+use Rattle.std.proofs.Common.{ℕ, Option, sym, ap, refl, subst, arith}
 use Rattle.std.specs.Prelude.{IfSome, ◌≤◌}
 use Rattle.xa_server.specs.xa_caller.Changes.{Refuses}
 use Rattle.xa_server.specs.xa_caller.Phases.{just_in}
@@ -22,5 +22,5 @@ returns c =
     let desk = c.args.self.now in
     let reads = is_read d desk c.requires.desk c.id-itself.ensures.sound in
     let refuse = c.refuse.ensures in
-    let done = refuse_tick_goes d desk c.requires.desk reads c.args.op c.args.n c.args.fault c.args.evidence c.requires.so (ap just_in c.requires.idle) c.refuse.new.self c.refuse.result refuse.ok refuse.kept in
+    let done = refuse_tick_goes d desk c.requires.desk reads c.args.op c.args.n c.args.fault c.args.evidence c.requires.so (let turn = c.requires.turn in omega (arith, turn)) (ap just_in c.requires.idle) c.refuse.new.self c.refuse.result refuse.ok refuse.kept in
     record { leads = done.0; refused = ok_both (λ stamp. Refuses c.args.op c.args.fault c.args.evidence stamp c.refuse.new.self desk.caller) (IsTickRefusal desk.caller c.args.fault c.args.evidence) (is_tick_refusal d desk c.requires.desk c.args.n c.args.fault c.args.evidence c.requires.so) c.refuse.result refuse.ok; halted = refuse.halted; kept = done.2; rest = refl; fits = done.1 }

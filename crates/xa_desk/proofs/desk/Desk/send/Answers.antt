@@ -1,8 +1,10 @@
-use Rattle.std.proofs.Common.{◌+◌, refl, subst}
+use Rattle.std.proofs.Common.{refl, sym, ◌∙◌, ap, subst}
 use Rattle.xa_server.specs.xa_held.Kept.{Becomes}
 use Rattle.xa_server.specs.xa_held.Steps.{PutAs}
+use Rattle.xa_server.specs.xa_caller.Caller.{CallerState}
+use Rattle.xa_server.specs.xa_caller.Phases.{just_in}
 use Rattle.xa_desk.specs.declared.desk.Desk.{Desk}
-use Rattle.xa_desk.proofs.Fitting.{is_read, no_more_fits}
+use Rattle.xa_desk.proofs.Fitting.{no_more_fits}
 use Rattle.xa_desk.proofs.Sending.{is_accept, brings, in_range, put_here, sent_leads, sent_fits, shows_why, sees_why, may_have}
 use Rattle.xa_desk.proofs.Visiting.{looked_grew, looked_leads}
 use Rattle.xa_desk.proofs.Entering.{lent, may_leave, visited, none_ours, one_ours, put_adds}
@@ -35,12 +37,12 @@ leave-last-requires-clause-at g c = may_leave (c.enter-visit.ensures.at c.args.s
 pub returns-in-Ok : goal.returns-in-Ok
 returns-in-Ok g c =
     let f = c.requires.found in
-    let new : Desk = record c.args.self.now { caller = c.sent.new.self; queues = c.leave-last.new.passes } in
+    let new : Desk = record c.args.self.now { caller = c.mark_sent.new.caller; queues = c.leave-last.new.passes } in
     let v = visited (c.enter-visit.ensures.at c.args.self.now c.requires.desk refl) c.queue_of-queue.ensures c.value.ensures.value c.leave-last.ensures.left new refl refl refl (one_ours c.args.self.now c.id-maker.result c.in-Ok.stamp c.args.prepared.event c.id-maker.ensures.value) (subst (PutAs (Becomes c.value.result.now c.put-answer.new.self) c.stamp-seen.result c.id-maker.result c.args.prepared.event c.args.prepared.entry) c.in-Ok.is c.put-answer.ensures) in
     record {
-      leads = sent_leads f.0 f.2 f.3 v.step c.stamp-seen.result c.stamp-seen.ensures.value c.id-maker.result c.in-Ok.stamp v.came c.sent.ensures;
-      sent = (c.in-Ok.stamp, c.sent.ensures);
-      fits = λ ask valid has aimed. sent_fits ask has aimed v.step c.stamp-seen.result c.stamp-seen.ensures.value c.id-maker.result c.in-Ok.stamp v.came c.sent.ensures (is_read c.args.domain.now c.args.self.now c.requires.desk c.id-maker.ensures.sound) valid;
+      leads = sent_leads f.0 f.2 f.3 v.step c.stamp-seen.result c.stamp-seen.ensures.value c.id-maker.result c.args.apart c.in-Ok.stamp v.came c.mark_sent.ensures;
+      sent = (c.in-Ok.stamp, c.mark_sent.ensures);
+      fits = λ ask valid has aimed. sent_fits ask has aimed v.step c.stamp-seen.result c.stamp-seen.ensures.value c.id-maker.result c.args.apart c.in-Ok.stamp v.came c.mark_sent.ensures valid;
       reader = refl;
       board = refl;
       queue = c.queue_of-queue.ensures;
@@ -61,7 +63,7 @@ returns-in-Err g c =
     record {
       leads = leads;
       sent = tt;
-      fits = λ ask valid has aimed. no_more_fits c.args.domain.now c.args.self.now new leads (looked_grew v.step v.came c.saw.ensures) (c.args.self.now.caller.op + 1) ask;
+      fits = λ ask valid has aimed ops its. no_more_fits c.args.domain.now c.args.self.now new leads (looked_grew v.step v.came c.saw.ensures) (λ none. sym (ap (λ (k : CallerState). just_in k.phase) c.saw.ensures) ∙ none) ops;
       reader = refl;
       board = refl;
       queue = tt;

@@ -1,4 +1,4 @@
-use Rattle.std.proofs.Common.{inl, inr, refl, sym, ◌∙◌, ap, subst, arith}
+use Rattle.std.proofs.Common.{Some, inl, inr, refl, sym, ◌∙◌, ap, subst, arith}
 use Rattle.std.specs.Prelude.{nat_lt}
 use Rattle.std.proofs.lemmas.Bool.{and_parts, ltb-true}
 use Rattle.xa_server.specs.xa_types.declared.call.Op.TheVariants.{Unadvertise}
@@ -6,7 +6,8 @@ use Rattle.xa_server.specs.xa_types.declared.ids.CallerId.{CallerId}
 use Rattle.xa_server.specs.xa_types.declared.stamp.Stamp.{Stamp}
 use Rattle.xa_server.specs.xa_events.declared.event.Event.{Event}
 use Rattle.xa_server.specs.xa_events.declared.event.Event.TheVariants.{Withdraw}
-use Rattle.xa_server.specs.xa_events.Caller.{op_in}
+use Rattle.xa_server.specs.xa_events.Caller.{op_in, is_call_of}
+use Rattle.xa_server.specs.xa_events.Calls.{awaits_answer}
 use Rattle.xa_server.specs.xa_held.Board.{Held, Turns, raised}
 use Rattle.xa_server.specs.xa_held.BoardSteps.{WithdrewAs}
 use Rattle.xa_server.specs.xa_worker.Calls.{FitsOwn}
@@ -20,7 +21,8 @@ use Rattle.xa_desk.specs.Whole.{entries_of}
 use Rattle.xa_desk.specs.Advertising.{BarsWithdrawal, rows_seen}
 use Rattle.xa_desk.proofs.Boarding.{board_front, board_grew}
 use Rattle.xa_desk.proofs.BoardEntering.{may_leave_board, board_visited, none_there, one_there, withdraw_adds}
-use Rattle.xa_desk.proofs.Fitting.{its_events, is_read}
+use Rattle.xa_server.proofs.xa_caller.Reading.{is_numbered}
+use Rattle.xa_desk.proofs.Fitting.{its_events}
 use Rattle.xa_desk.proofs.Advertising.{recent, change_leads, change_fits, withdraw_ends, withdrawal_barred, barred_leads, rows_stood}
 use Rattle.xa_desk.proofs.desk.Desk.take_row.Goals as goal
 
@@ -73,11 +75,12 @@ returns-in-Ok-clause-fits g c named =
     let v = board_visited at c.value.ensures.value c.leave_board-last.ensures.left new refl refl refl (one_there desk c.id-maker.result _ c.id-maker.ensures.value refl) did in
     let above = ltb-true desk.caller.work.clients desk.caller.work.id.0 (and_parts (nat_lt desk.caller.work.clients desk.caller.work.id.0) _ c.requires.active).0 in
     let number = ap (λ (i : CallerId). i.0) c.id-maker.ensures.value in
+    let turn = c.requires.turn in
     let event = did.how.1.event_is ∙ ap (λ (i : CallerId). Withdraw (record { by = i; op = c.args.op; service = c.args.service.now; queue = c.args.queue; version = c.in-Ok.changed.version })) c.id-maker.ensures.value in
     change_fits v.step c.stamp-seen.result c.stamp-seen.ensures.value c.id-maker.result c.in-Ok.changed _ _ _ v.came c.args.op tt refl c.changed.ensures
     (λ whole on. taken_met d.setup _ _ c.id-maker.result whole.board (board_front v.step whole on) c.stamp-seen.result c.id-maker.result c.args.op c.args.service.now c.args.queue c.in-Ok.changed v.came)
     (λ whole on. record { saw = λ zero. absurd (omega (arith, above, number, zero)); told = tt; clears = λ zero. absurd (omega (arith, above, number, zero)) })
-    (Unadvertise c.args.service.now) (ap op_in event) (is_read d desk c.requires.desk c.id-maker.ensures.sound) (ap just_in c.requires.idle)
+    (Unadvertise c.args.service.now) (ap op_in event) (ap (is_call_of desk.caller.work.id.0) event ∙ is_numbered desk.caller.work.id.0 desk.caller.work.id.0 c.args.op refl (omega (arith, turn))) (λ ops. ap (λ (e : Event). awaits_answer ops (Some e)) event) (ap just_in c.requires.idle)
     (λ whole on. subst (λ (e : Event). FitsOwn d.setup d.clients (entries_of whole) c.in-Ok.changed.noted.stamp (Unadvertise c.args.service.now) e (its_events d desk)) (sym event) (named, refl))
 
 pub returns-in-Err-clause-moves : goal.returns-in-Err-clause-moves

@@ -64,3 +64,6 @@ returns-clause-stands c =
     (subst (λ g. Stands (new g c.take_out.new.hand) (noted_here (record { stamp = stamp; event = End (end_of s h.0 (BadForward c.args.version)) }) (with_room 3 w))) (sym c.life_in-life.ensures)
     (subst (λ hand. Stands (new (life_in s.doing) hand) (noted_here (record { stamp = stamp; event = End (end_of s h.0 (BadForward c.args.version)) }) (with_room 3 w))) (sym c.take_out.ensures.now)
     (finished_stands s w c.requires.stands h.0 (BadForward c.args.version) stamp noted.next))))
+
+pub note_anew-requires-clause-none : goal.note_anew-requires-clause-none
+note_anew-requires-clause-none c = c.requires.stands.tables.worker.none

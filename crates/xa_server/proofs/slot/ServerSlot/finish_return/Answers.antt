@@ -90,3 +90,6 @@ returns-clause-stands c =
     (subst (λ hand. Stands (new (after_end o (life_in s.doing)) hand c.last_by-last.result) (noted_here (record { stamp = stamp; event = End (end_of s h.0 o) }) (with_room 3 w))) (sym c.take_out.ensures.now)
     (subst (λ (l : Last). Stands (new (after_end o (life_in s.doing)) None l) (noted_here (record { stamp = stamp; event = End (end_of s h.0 o) }) (with_room 3 w))) (sym c.last_by-last.ensures)
     (finished_stands s w c.requires.stands h.0 o stamp noted.next)))))
+
+pub note_anew-requires-clause-none : goal.note_anew-requires-clause-none
+note_anew-requires-clause-none c = c.requires.stands.tables.worker.none

@@ -63,3 +63,6 @@ returns-clause-ok c =
       };
       left = ap (λ (d : Doing). record s { doing = d; last = c.last_by-last.result }) doing ∙ ap (λ (l : Last). record s { doing = after_end o (life_in s.doing); last = l }) last;
     }
+
+pub note_in_room-requires-clause-none : goal.note_in_room-requires-clause-none
+note_in_room-requires-clause-none c = c.requires.stands.tables.worker.none

@@ -32,3 +32,6 @@ returns-clause-stands c =
     (subst (λ (v : WorkState). Stands (with_start b.tick s) v) (sym noted.made)
     (subst (λ (b : Started). Stands (with_start b.tick s) (noted_here (record { stamp = stamp; event = StartFailed b }) (with_room 1 w))) (sym c.next-started.ensures)
     (failed_stands s w c.requires.stands (record { 0 = s.made + 1 }) c.args.tick stamp c.requires.may noted.next)))
+
+pub note_anew-requires-clause-none : goal.note_anew-requires-clause-none
+note_anew-requires-clause-none c = c.requires.stands.tables.worker.none

@@ -33,3 +33,6 @@ returns-clause-stands c =
     (subst (λ (v : WorkState). Stands (record (with_start b.tick s) { doing = Idle b.generation }) v) (sym noted.made)
     (subst (λ (b : Started). Stands (record (with_start b.tick s) { doing = Idle b.generation }) (noted_here (record { stamp = stamp; event = Start b }) (with_room 3 w))) (sym c.next-started.ensures)
     (starts_stands s w c.requires.stands (record { 0 = s.made + 1 }) c.args.tick stamp c.requires.may noted.next)))
+
+pub note_anew-requires-clause-none : goal.note_anew-requires-clause-none
+note_anew-requires-clause-none c = c.requires.stands.tables.worker.none

@@ -23,3 +23,6 @@ returns-clause-stands c =
     subst (λ (v : WorkState). Stands (new c.is_shutdown-self.result) v) (sym c.in_ok-stamp.ensures.noted.made)
     (subst (λ b. Stands (new b) (noted_here (record { stamp = c.in_ok-stamp.stamp; event = Stop (record { server = s.server; generation = c.life_in.result; cause = c.args.cause }) }) w)) (sym c.is_shutdown-self.ensures)
     (stopped_stands s w c.requires.stands c.args.cause c.life_in.result c.in_ok-stamp.stamp c.requires.free c.in_ok-stamp.ensures.noted.next))
+
+pub note_in_room-requires-clause-none : goal.note_in_room-requires-clause-none
+note_in_room-requires-clause-none c = c.requires.stands.tables.worker.none

@@ -23,9 +23,9 @@ returns-in-Ok-None-clause-off g c =
     let served' = c.start-started.new.served in
     let desk' = c.start-started.new.self in
     let s = c.start-started.ensures in
-    let fails = subst (λ o. Tries w.name 0 o served'.slot w.served.slot desk'.caller.work w.desk.caller.work) c.in-Ok-None.field-0-is c.in-Ok-None.ensures.tried in
+    let fails = subst (λ o. Tries w.name c.args.tick o served'.slot w.served.slot desk'.caller.work w.desk.caller.work) c.in-Ok-None.field-0-is c.in-Ok-None.ensures.tried in
     let rose = subst (λ o. Counts o (g.T.Starter.shows w.served.starter).faults (g.T.Starter.shows served'.starter).faults) c.in-Ok-None.field-0-is c.in-Ok-None.ensures.counted in
-    let dead = fails_off w off served' desk' s.leads s.rest.2 (s.serving w.queue.0 off.at.serving) s.same s.rest.1 fails c.in-Ok-None.ensures.asked rose in
+    let dead = fails_off w off served' desk' s.leads s.rest.2 (s.serving w.queue.0 off.at.serving) s.same s.rest.1 c.args.tick fails c.in-Ok-None.ensures.asked rose in
     (dead.0, tt, dead.1)
 
 pub returns-in-Err-clause-halted : goal.returns-in-Err-clause-halted
@@ -44,9 +44,9 @@ serve-requires-clause-free g c κs within =
     let served' = c.start-started.new.served in
     let desk' = c.start-started.new.self in
     let s = c.start-started.ensures in
-    let begins = subst (λ o. Tries w.name 0 o served'.slot w.served.slot desk'.caller.work w.desk.caller.work) c.in-Ok-Some.field-0-is c.in-Ok-Some.ensures.tried in
+    let begins = subst (λ o. Tries w.name c.args.tick o served'.slot w.served.slot desk'.caller.work w.desk.caller.work) c.in-Ok-Some.field-0-is c.in-Ok-Some.ensures.tried in
     let faults = subst (λ o. Counts o (g.T.Starter.shows w.served.starter).faults (g.T.Starter.shows served'.starter).faults) c.in-Ok-Some.field-0-is c.in-Ok-Some.ensures.counted in
-    let is = starts_in w off served' desk' s.leads s.rest.2 (s.serving w.queue.0 off.at.serving) s.same s.rest.1 c.in-Ok-Some.life begins c.in-Ok-Some.ensures.asked faults c.in-Ok-Some.ensures.room in
+    let is = starts_in w off served' desk' s.leads s.rest.2 (s.serving w.queue.0 off.at.serving) s.same s.rest.1 c.args.tick c.in-Ok-Some.life begins c.in-Ok-Some.ensures.asked faults c.in-Ok-Some.ensures.room in
     in_counted (served_at w served' desk') c.count_up.new.self c.count_up.ensures.rest (greeted_in (served_at w served' desk') c.in-Ok.life c.in-Ok-Some.life c.in-Ok.ensures.greeted is)
 
 pub died-requires-clause-may : goal.died-requires-clause-may
@@ -56,9 +56,9 @@ died-requires-clause-may g c =
     let served' = c.start-started.new.served in
     let desk' = c.start-started.new.self in
     let s = c.start-started.ensures in
-    let begins = subst (λ o. Tries w.name 0 o served'.slot w.served.slot desk'.caller.work w.desk.caller.work) c.in-Ok-Some.field-0-is c.in-Ok-Some.ensures.tried in
+    let begins = subst (λ o. Tries w.name c.args.tick o served'.slot w.served.slot desk'.caller.work w.desk.caller.work) c.in-Ok-Some.field-0-is c.in-Ok-Some.ensures.tried in
     let faults = subst (λ o. Counts o (g.T.Starter.shows w.served.starter).faults (g.T.Starter.shows served'.starter).faults) c.in-Ok-Some.field-0-is c.in-Ok-Some.ensures.counted in
-    let is = starts_in w off served' desk' s.leads s.rest.2 (s.serving w.queue.0 off.at.serving) s.same s.rest.1 c.in-Ok-Some.life begins c.in-Ok-Some.ensures.asked faults c.in-Ok-Some.ensures.room in
+    let is = starts_in w off served' desk' s.leads s.rest.2 (s.serving w.queue.0 off.at.serving) s.same s.rest.1 c.args.tick c.in-Ok-Some.life begins c.in-Ok-Some.ensures.asked faults c.in-Ok-Some.ensures.room in
     falls_greeting (served_at w served' desk') c.in-Ok-Some.life c.in-Err-greet.over c.in-Err-greet.ensures.over is
 
 pub returns-in_err-died-in-Err-greet-clause-goes : goal.returns-in_err-died-in-Err-greet-clause-goes
@@ -68,8 +68,8 @@ returns-in_err-died-in-Err-greet-clause-goes g c =
     let served' = c.start-started.new.served in
     let desk' = c.start-started.new.self in
     let s = c.start-started.ensures in
-    let begins = subst (λ o. Tries w.name 0 o served'.slot w.served.slot desk'.caller.work w.desk.caller.work) c.in-Ok-Some.field-0-is c.in-Ok-Some.ensures.tried in
-    let goes = starts_goes w off served' desk' s.leads s.rest.2 (s.serving w.queue.0 off.at.serving) s.same s.rest.1 c.in-Ok-Some.life begins in
+    let begins = subst (λ o. Tries w.name c.args.tick o served'.slot w.served.slot desk'.caller.work w.desk.caller.work) c.in-Ok-Some.field-0-is c.in-Ok-Some.ensures.tried in
+    let goes = starts_goes w off served' desk' s.leads s.rest.2 (s.serving w.queue.0 off.at.serving) s.same s.rest.1 c.args.tick c.in-Ok-Some.life begins in
     goes_trans w (served_at w served' desk') c.died.new.self goes c.in_err-died-in-Err-greet.ensures.goes
 
 pub returns-in-Ok-clause-goes : goal.returns-in-Ok-clause-goes
@@ -79,8 +79,8 @@ returns-in-Ok-clause-goes g c =
     let served' = c.start-started.new.served in
     let desk' = c.start-started.new.self in
     let s = c.start-started.ensures in
-    let begins = subst (λ o. Tries w.name 0 o served'.slot w.served.slot desk'.caller.work w.desk.caller.work) c.in-Ok-Some.field-0-is c.in-Ok-Some.ensures.tried in
-    let goes = starts_goes w off served' desk' s.leads s.rest.2 (s.serving w.queue.0 off.at.serving) s.same s.rest.1 c.in-Ok-Some.life begins in
+    let begins = subst (λ o. Tries w.name c.args.tick o served'.slot w.served.slot desk'.caller.work w.desk.caller.work) c.in-Ok-Some.field-0-is c.in-Ok-Some.ensures.tried in
+    let goes = starts_goes w off served' desk' s.leads s.rest.2 (s.serving w.queue.0 off.at.serving) s.same s.rest.1 c.args.tick c.in-Ok-Some.life begins in
     goes_trans w c.count_up.new.self c.serve.new.self (goes_counted (served_at w served' desk') w c.count_up.new.self c.count_up.ensures.rest goes) c.serve.ensures.goes
 
 pub returns-in_ok-died-in-Err-greet-clause-goes : goal.returns-in_ok-died-in-Err-greet-clause-goes
@@ -90,6 +90,6 @@ returns-in_ok-died-in-Err-greet-clause-goes g c =
     let served' = c.start-started.new.served in
     let desk' = c.start-started.new.self in
     let s = c.start-started.ensures in
-    let begins = subst (λ o. Tries w.name 0 o served'.slot w.served.slot desk'.caller.work w.desk.caller.work) c.in-Ok-Some.field-0-is c.in-Ok-Some.ensures.tried in
-    let goes = starts_goes w off served' desk' s.leads s.rest.2 (s.serving w.queue.0 off.at.serving) s.same s.rest.1 c.in-Ok-Some.life begins in
+    let begins = subst (λ o. Tries w.name c.args.tick o served'.slot w.served.slot desk'.caller.work w.desk.caller.work) c.in-Ok-Some.field-0-is c.in-Ok-Some.ensures.tried in
+    let goes = starts_goes w off served' desk' s.leads s.rest.2 (s.serving w.queue.0 off.at.serving) s.same s.rest.1 c.args.tick c.in-Ok-Some.life begins in
     goes_trans w (served_at w served' desk') c.died.new.self goes c.in_ok-died-in-Err-greet.ensures.goes

@@ -1,6 +1,0 @@
-use Rattle.std.proofs.Common.{subst}
-use Rattle.xa_caller.specs.Caller.{IsSound}
-use Rattle.xa_caller.proofs.caller.Caller.leave.Goals as goal
-
-pub returns-clause-sound : goal.returns-clause-sound
-returns-clause-sound c = subst IsSound c.self.view_is c.self.invariant.sound
